@@ -8,7 +8,8 @@ use Rattle.scripts.specs.Sides.{deed_side}
 use Rattle.scripts.specs.declared.lined.Lined.{Lined}
 use Rattle.duet.specs.Outcomes.{Beside, Played, barring, lines_alone, unless_barred}
 use Rattle.duet.specs.Replies.{closed_line}
-use Rattle.duet.specs.Shuts.{Shut, Shuts, needs_open, shut_of}
+use Rattle.parties.specs.Shuts.{Shut}
+use Rattle.duet.specs.Shuts.{Shuts, needs_open, shut_of}
 
 -- what holds either way
 pub barred_or : {S L : Type 0} (P : Played S L → Type 0) (side : Side) (s : Beside S L) (made : Played S L)

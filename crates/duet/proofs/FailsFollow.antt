@@ -26,7 +26,8 @@ use Rattle.client.specs.Outcomes.{replacing_call, replacing_calls}
 use Rattle.scripts.specs.Sides.{acting_side}
 use Rattle.duet.specs.Outcomes.{SidesPlayed, WorldBeside, acted, failed, failed_in, failed_on, lines_alone}
 use Rattle.duet.specs.Replies.{failed_line, reply_of}
-use Rattle.duet.specs.Shuts.{Shut, Shuts, act_of_event, failing_call, is_shown, left_of, shut_of, with_shut}
+use Rattle.parties.specs.Shuts.{Shut, failing_call, is_shown, left_of}
+use Rattle.duet.specs.Shuts.{Shuts, act_of_event, shut_of, with_shut}
 use Rattle.duet.proofs.Leading.{held_back, leads}
 use Rattle.duet.proofs.Moving.{one_of}
 use Rattle.duet.proofs.SaidBoxes.{IsHeldBack, IsHonest, IsLeft, IsSaidPacket, KeepsShut, boxes_weaker, left_stays}

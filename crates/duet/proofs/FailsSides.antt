@@ -21,13 +21,14 @@ use Rattle.duet.specs.Gathering.{gathered, gathers, newest_from}
 use Rattle.duet.specs.Held.{DuetNow, after_step, after_deed, beside, with_draws}
 use Rattle.duet.specs.Outcomes.{SidesPlayed, failed, failed_on, opened}
 use Rattle.duet.specs.Replies.{failed_line, reply_line}
-use Rattle.duet.specs.Shuts.{Shut, failing_call, left_of, with_shut}
+use Rattle.parties.specs.Shuts.{Shut, failing_call, left_of}
+use Rattle.duet.specs.Shuts.{with_shut}
 use Rattle.duet.specs.Tally.{counted_all, counted_of}
 use Rattle.duet.specs.declared.tally.Tally.{Tally}
 use Rattle.duet.proofs.Gathering.{acted_few, gathers_none, own_next, same_client, same_draws}
 use Rattle.duet.proofs.Moving.{drawn_same}
 use Rattle.duet.proofs.Showing.{call_reply}
-use Rattle.duet.proofs.Stopped.Fails.{no_effect}
+use Rattle.parties.proofs.Stopped.Fails.{no_effect}
 
 module _ (k : Mechanism) (old mid : DuetNow) (side : Side) (call : CallOfLine) (n : ℕ)
     (drawn : mid ≡ with_draws old mid.sides.draws) where

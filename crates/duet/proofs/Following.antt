@@ -28,18 +28,19 @@ use Rattle.dr_model.proofs.Worlds.SeenWorlds.{seen_world}
 use Rattle.relay_core.specs.Boxes.{Box, Kept, empty_box}
 use Rattle.client.specs.Syncing.Lines.{own_box, peers_box}
 use Rattle.duet.specs.Outcomes.{SidesBeside, SidesPlayed, WorldBeside, WorldPlayed, acted, barring, deed_in, deed_on, freely_in, freely_on, meeting_in, synced_in, unless_barred}
-use Rattle.scripts.specs.Deeds.{Deed, acts, fails, reopens, stops, syncs}
+use Rattle.scripts.specs.Deeds.{Deed, HasWholeSeed, acts, fails, reopens, stops, syncs}
 use Rattle.scripts.specs.Sides.{acting_side, deed_side}
-use Rattle.duet.specs.Stops.{cut_event, cut_of, stopped_in, stopped_on}
+use Rattle.duet.specs.Stops.{cut_event, stopped_in, stopped_on}
+use Rattle.parties.specs.Stops.{cut_of}
 use Rattle.scripts.specs.Script.{Scripted}
 use Rattle.duet.specs.Tally.{both_reached, both_reached_in, counted_all, counted_by, opening_tally, tally_in, tally_of}
 use Rattle.duet.specs.Trace.{IsUnforgedDeed, IsUnforgedPlay, IsUnforgedScript, after_by, beginning_in, lines_by, played, trace_of}
-use Rattle.scripts.specs.Deeds.{HasWholeSeed}
 use Rattle.duet.specs.declared.tally.Tally.{Tally}
 use Rattle.duet.proofs.SaidBoxes.{HoldsOnly, IsHonest, IsLeft, IsSaidPacket, KeepsShut, honest_next}
 use Rattle.duet.proofs.SaidSyncs.{sync_fair, sync_honest}
 use Rattle.duet.proofs.SyncsFollow.{sync_follows, sync_leaves}
-use Rattle.duet.specs.Shuts.{Shut, Shuts, asks_open, both_open, needs_open, shut_of}
+use Rattle.parties.specs.Shuts.{Shut}
+use Rattle.duet.specs.Shuts.{Shuts, asks_open, both_open, needs_open, shut_of}
 use Rattle.duet.proofs.Barred.{is_open}
 use Rattle.duet.proofs.FailsFollow.{fails_follow, fails_honest, same_acted}
 use Rattle.duet.proofs.Moving.{if_any, if_none, keeps_shut, one_of}

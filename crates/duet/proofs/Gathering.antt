@@ -21,7 +21,8 @@ use Rattle.session_model.specs.declared.answer.Refusal.{Refusal}
 use Rattle.session_model.specs.declared.answer.Refusal.TheVariants.{Fewer}
 use Rattle.client.proofs.Syncs.Parties.{keeps_outbox}
 use Rattle.duet.specs.Gathering.{gathered, gathering, newest_from}
-use Rattle.duet.specs.Stops.{cut_by, cut_of, stopped_client, stopped_sides}
+use Rattle.parties.specs.Stops.{cut_by, cut_of, stopped_client}
+use Rattle.duet.specs.Stops.{stopped_sides}
 
 -- the last item
 pub last_dropped : {X : Type 0} (xs : List X) (held : ℕ) (x : X) → length xs ≡ held + 1

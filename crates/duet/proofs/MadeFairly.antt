@@ -4,10 +4,9 @@ use Rattle.std.specs.Prelude.{All}
 use Rattle.std.proofs.lemmas.List.Elements.{All-append, All-cons, All-nil}
 use Rattle.kem_laws.specs.Mechanism.{Mechanism}
 use Rattle.duet.specs.Outcomes.{WorldBeside}
-use Rattle.scripts.specs.Deeds.{Deed}
+use Rattle.scripts.specs.Deeds.{Deed, HasWholeSeed}
 use Rattle.scripts.specs.Make.{deeds_from, made_deeds, made_script, opening, round_of, turn_deeds}
 use Rattle.duet.specs.Trace.{IsUnforgedPlay, IsUnforgedScript, beginning_in}
-use Rattle.scripts.specs.Deeds.{HasWholeSeed}
 use Rattle.scripts.specs.declared.make.rounds.Making.{Making}
 use Rattle.scripts.specs.declared.make.rounds.Turn.{Turn}
 use Rattle.scripts.specs.declared.make.rounds.Turn.TheVariants.{Says, Takes, Rests}

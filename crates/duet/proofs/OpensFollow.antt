@@ -18,7 +18,8 @@ use Rattle.session_model.specs.Clients.{Client}
 use Rattle.duet.specs.Gathering.{gathers}
 use Rattle.duet.specs.Outcomes.{SidesPlayed, WorldBeside, act_done_in, opened, lines_alone}
 use Rattle.duet.specs.Replies.{open_line}
-use Rattle.duet.specs.Shuts.{Shut, Shuts, shut_of, with_shut}
+use Rattle.parties.specs.Shuts.{Shut}
+use Rattle.duet.specs.Shuts.{Shuts, shut_of, with_shut}
 use Rattle.duet.proofs.FailsFollow.{other_shut, own_shut, redrawn, redrawn_keeps}
 use Rattle.duet.proofs.Gathering.{none_newest}
 use Rattle.duet.proofs.HeldBack.{done_lawful, key_stays, newest, other_kept, own_kept, posts_grow, said_on_way}

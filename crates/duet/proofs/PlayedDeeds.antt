@@ -3,7 +3,7 @@ use Rattle.std.specs.Prelude.{Bool, List, false, is_some, not, option_map, true,
 use Rattle.dr_disk.specs.declared.call.Call.{Call}
 use Rattle.dr_model.specs.Machines.Sides.{Sides}
 use Rattle.session_model.specs.Clients.{Client}
-use Rattle.duet.specs.Shuts.{Shut}
+use Rattle.parties.specs.Shuts.{Shut}
 use Rattle.std.proofs.Common.{Option, Some, ◌≡◌, ◌≤◌, None, Result, Ok, Err, OnOk, MatchResult, refl, subst, sym, arith}
 use Rattle.dr_ports.specs.Ports.{Rose, appended}
 use Rattle.dr_ports.specs.States.{SinkState}

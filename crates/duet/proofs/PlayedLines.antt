@@ -18,7 +18,8 @@ use Rattle.duet.specs.Outcomes.{Beside, Played, SidesBeside, SidesPlayed, barrin
 use Rattle.scripts.specs.Deeds.{Deed, acts, fails, reopens, stops, syncs}
 use Rattle.scripts.specs.Sides.{acting_side, deed_side}
 use Rattle.duet.specs.Gathering.{gathers}
-use Rattle.duet.specs.Shuts.{Shut, failing_call, left_of, shut_of}
+use Rattle.parties.specs.Shuts.{Shut, failing_call, left_of}
+use Rattle.duet.specs.Shuts.{shut_of}
 use Rattle.duet.proofs.Barred.{barred_or}
 use Rattle.duet.specs.Held.{DuetNow, after_deed, beside, opening_duet}
 use Rattle.scripts.specs.Script.{Scripted}

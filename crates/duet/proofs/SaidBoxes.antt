@@ -25,7 +25,8 @@ use Rattle.relay_wire.specs.Requests.{Asked, Asking, acks, fetches, posts}
 use Rattle.session_model.specs.Clients.{Client, say_check}
 use Rattle.client.specs.Syncing.Parties.{waiting}
 use Rattle.duet.specs.Outcomes.{WorldBeside}
-use Rattle.duet.specs.Shuts.{Shut, Shuts, shut_of}
+use Rattle.parties.specs.Shuts.{Shut}
+use Rattle.duet.specs.Shuts.{Shuts, shut_of}
 
 -- ---- packets that were said
 

@@ -12,7 +12,8 @@ use Rattle.session_model.specs.Clients.{Client}
 use Rattle.scripts.specs.Deeds.{Deed}
 use Rattle.scripts.specs.Sides.{deed_side}
 use Rattle.duet.specs.Outcomes.{SidesBeside, SidesPlayed, WorldBeside, WorldPlayed, barring}
-use Rattle.duet.specs.Shuts.{Shut, Shuts, needs_open, shut_of}
+use Rattle.parties.specs.Shuts.{Shut}
+use Rattle.duet.specs.Shuts.{Shuts, needs_open, shut_of}
 use Rattle.duet.proofs.SaidBoxes.{KeepsShut}
 
 -- the client that a closed side has next

@@ -1,6 +1,6 @@
 -- What an event shows, and what it adds to the network and to the draws.
 use Rattle.std.proofs.Common.{◌≡◌, ℕ, ◌+◌, ◌≤◌, Bool, true, false, List, [], ◌∷◌, ◌++◌, length, Option, Some, None, Result, Ok, Err, if◌then◌else◌, refl, sym, ◌∙◌, ap, ap₂, append-nil, arith, length-append}
-use Rattle.std.specs.Prelude.{IfOk, drop, flat_map, nat_le, nat_lt, ◌-◌}
+use Rattle.std.specs.Prelude.{IfOk, drop, nat_le, nat_lt, ◌-◌}
 use Rattle.std.proofs.lemmas.List.{length-drop}
 use Rattle.dr_base.specs.declared.position.Side.{Side}
 use Rattle.dr_base.specs.declared.position.Side.TheVariants.{First, Second}
@@ -22,12 +22,14 @@ use Rattle.scripts.specs.Deeds.{Deed, acts, fails, reopens, stops, syncs}
 use Rattle.dr_disk.specs.declared.call.Call.{Call as DiskCall}
 use Rattle.duet.specs.Gathering.{gathers, newest_from}
 use Rattle.duet.specs.Held.{shown}
-use Rattle.duet.specs.Shuts.{Shut, failing_call, left_of, shut_of}
+use Rattle.parties.specs.Shuts.{Shut, failing_call, left_of}
+use Rattle.duet.specs.Shuts.{shut_of}
 use Rattle.duet.proofs.Barred.{barred_or}
 use Rattle.scripts.specs.Seen.{CallOfLine, call_event}
 use Rattle.duet.specs.Replies.{reply_line, reply_of, shown_lines}
 use Rattle.scripts.specs.Sides.{acting_side, deed_side}
-use Rattle.duet.specs.Stops.{cut_event, cut_of, stopped_on}
+use Rattle.duet.specs.Stops.{cut_event, stopped_on}
+use Rattle.parties.specs.Stops.{cut_of}
 use Rattle.scripts.specs.declared.lined.Stop.{Stop}
 
 -- a step that shows nothing, adds at most one packet to the network, and makes at most one draw

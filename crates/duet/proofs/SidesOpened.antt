@@ -9,7 +9,8 @@ use Rattle.dr_model.specs.Machines.Sides.{with_client}
 use Rattle.relay_core.specs.Boxes.{Box}
 use Rattle.session_model.specs.Clients.{Client}
 use Rattle.duet.specs.Held.{DuetNow, duet_now}
-use Rattle.duet.specs.Shuts.{PartyNow, Shut, open_party, shut_of, with_shut}
+use Rattle.parties.specs.Shuts.{PartyNow, Shut, open_party}
+use Rattle.duet.specs.Shuts.{shut_of, with_shut}
 
 -- the side opens to what was left of it
 abbrev pub OpensSide : DuetNow → Side → DuetNow → Type 0

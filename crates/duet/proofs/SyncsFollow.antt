@@ -28,7 +28,8 @@ use Rattle.sync_model.specs.Transfers.{Meeting, begins}
 use Rattle.sync_model.proofs.Scenes.{scenes_alike}
 use Rattle.client.specs.Syncing.Lines.{answer_line, own_box, peers_box}
 use Rattle.client.specs.Syncing.Parties.{client_party, is_inbox_full, oldest_sent, waiting, world_party}
-use Rattle.duet.specs.Outcomes.{SidesPlayed, ending_line, closing_line, sync_lines, synced_on}
+use Rattle.duet.specs.Outcomes.{SidesPlayed, synced_on}
+use Rattle.parties.specs.SyncLines.{ending_line, closing_line, sync_lines}
 use Rattle.duet.specs.Gathering.{on_side}
 use Rattle.scripts.specs.Sides.{side_text}
 use Rattle.duet.specs.Shuts.{Shuts}

@@ -1,19 +1,19 @@
--- What a call comes to in which a disk fails once.
+-- What a call of both sides comes to in which a disk fails once.
 use Rattle.std.specs.Prelude.{Err, None, Ok, Result, Some, ℕ, ◌≡◌}
 use Rattle.dr_base.specs.declared.position.Side.{Side}
 use Rattle.dr_disk.specs.declared.call.Call.{Call}
 use Rattle.dr_model.specs.Machines.Acts.{Act, act_on}
 use Rattle.dr_model.specs.Machines.Events.{Event}
 use Rattle.dr_model.specs.Machines.Sides.{client_of, step_on}
-use Rattle.dr_model.specs.Machines.Steps.{settled, step}
+use Rattle.dr_model.specs.Machines.Steps.{settled}
 use Rattle.kem_laws.specs.Mechanism.{Mechanism}
 use Rattle.scripts.specs.Sides.{acting_side}
-use Rattle.session_model.specs.Clients.{Client}
 use Rattle.session_model.specs.declared.answer.Answer.{Answer}
 use Rattle.duet.specs.Gathering.{gathering, on_side}
 use Rattle.duet.specs.Held.{DuetNow, after_step, after_deed, beside}
 use Rattle.duet.specs.Outcomes.{failed_on}
-use Rattle.duet.specs.Shuts.{PartyNow, failing_call, left_of, shut_party, with_shut}
+use Rattle.parties.specs.Shuts.{failing_call, left_of}
+use Rattle.duet.specs.Shuts.{with_shut}
 
 -- the side is closed by a call of this kind, and keeps what it kept
 abbrev pub IsShutBy : Mechanism → Side → ℕ → Act → DuetNow → DuetNow → Call → Type 0
@@ -24,16 +24,6 @@ IsShutBy k side n act old new call =
     × (new ≡ record old {
       shuts = with_shut old.shuts side (Some (record { call = call; left = left_of n c made.next made.next c }));
     })
-
--- An act of which the write or sync of a number, from 1, fails: it takes place where it makes fewer, else it closes the client.
-abbrev pub FailsAt : Mechanism → ℕ → Act → Client → PartyNow → Result Answer Call → Type 0
-FailsAt k n act kept new (Ok answer) =
-    let made = settled kept (act_on k kept act) in
-    (failing_call n made.answer kept made.next ≡ None) × (step answer new.kept ≡ made) × (new.shut ≡ None)
-FailsAt k n act kept new (Err call) =
-    let made = settled kept (act_on k kept act) in
-    (failing_call n made.answer kept made.next ≡ Some call)
-    × (new ≡ shut_party kept call (left_of n kept made.next made.next kept))
 
 -- the same act of one side among both, and where the network gets what it adds
 abbrev pub FailsSides : Mechanism → Side → ℕ → Act → DuetNow → DuetNow → Result Answer Call → Type 0

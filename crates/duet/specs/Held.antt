@@ -13,7 +13,8 @@ use Rattle.dr_model.specs.Machines.Events.{Event, cuts, shows_awaiting, shows_in
 use Rattle.kem_laws.specs.Mechanism.{Mechanism}
 use Rattle.client.specs.Beginning.{begin_of, begun_client}
 use Rattle.duet.specs.Outcomes.{SidesBeside, SidesPlayed, opening_boxes}
-use Rattle.duet.specs.Shuts.{PartyNow, Shuts, open_party}
+use Rattle.parties.specs.Shuts.{PartyNow, open_party}
+use Rattle.duet.specs.Shuts.{Shuts}
 
 -- one of two sides that seal their texts so, at the beginning of a conversation
 abbrev pub opening_of : Mechanism → List ℕ → Formats → Side → Client

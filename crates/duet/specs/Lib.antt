@@ -2,9 +2,7 @@ pub mod Acts
 pub mod Failing
 pub mod Gathering
 pub mod Held
-pub mod Meetings
 pub mod Outcomes
-pub mod Parties
 pub mod Playing
 pub mod Replies
 pub mod Shuts

@@ -1,5 +1,5 @@
 -- What comes of a deed: for both sides and the relay's boxes, and in the world that they stand for.
-use Rattle.std.specs.Prelude.{ℕ, List, [], ◌∷◌, ◌++◌, None, Option, Some, false, if◌then◌else◌, true}
+use Rattle.std.specs.Prelude.{ℕ, List, [], ◌∷◌, None, Option, Some, false, if◌then◌else◌, true}
 use Rattle.dr_base.specs.declared.position.Side.{Side}
 use Rattle.dr_disk.specs.declared.call.Call.{Call}
 use Rattle.kem_laws.specs.Mechanism.{Mechanism}
@@ -7,8 +7,6 @@ use Rattle.relay_core.specs.Boxes.{Box, empty_box}
 use Rattle.relay_link.specs.Connections.{kept_before}
 use Rattle.session_model.specs.Clients.{Client}
 use Rattle.session_model.specs.declared.answer.Answer.{Answer}
-use Rattle.sync_model.specs.Moves.{Ending, Wait, box_is_full, ended, inbox_full, no_such_box, over, wrong}
-use Rattle.sync_model.specs.Parties.{Party}
 use Rattle.sync_model.specs.Scenes.{scene}
 use Rattle.sync_model.specs.Transfers.{Meeting}
 use Rattle.client.specs.Syncing.Lines.{own_box, peers_box}
@@ -20,14 +18,14 @@ use Rattle.dr_model.specs.Machines.Sides.{Sides, client_of, step_on, with_client
 use Rattle.dr_model.specs.Machines.Steps.{Step}
 use Rattle.dr_model.specs.Machines.Worlds.{World, step_of}
 use Rattle.dr_model.specs.Machines.WorldSides.{kept_in, sides_of}
-use Rattle.client.specs.declared.syncing.faults.SyncFault.TheVariants.{Link, Refused}
-use Rattle.client.specs.declared.syncing.faults.SyncRefusal.TheVariants.{BoxFull, InboxFull, Unknown}
 use Rattle.scripts.specs.Deeds.{Deed, acts, fails, reopens, stops, syncs}
 use Rattle.scripts.specs.Sides.{acting_side, deed_side, side_text}
 use Rattle.duet.specs.Gathering.{gathers}
-use Rattle.duet.specs.Replies.{closed_line, failed_line, fault_line, open_line, reply_of}
-use Rattle.duet.specs.Shuts.{Shut, Shuts, act_of_event, failing_call, left_of, needs_open, shut_of, with_shut}
+use Rattle.duet.specs.Replies.{closed_line, failed_line, open_line, reply_of}
+use Rattle.parties.specs.Shuts.{Shut, failing_call, left_of}
+use Rattle.duet.specs.Shuts.{Shuts, act_of_event, needs_open, shut_of, with_shut}
 use Rattle.duet.specs.Stops.{stopped_in, stopped_on}
+use Rattle.parties.specs.SyncLines.{sync_lines}
 
 -- Both sides, or the world that they stand for, what was left of those that are closed, and the relay's boxes.
 pub record Beside (S L : Type 0) : Type 0 where
@@ -68,22 +66,6 @@ acted event s made = record {
 }
 
 -- ---- a sync
-
--- how a sync of a side ends, after the lines that it printed: a refusal of its own is told as any is, and where it still waits
--- for a reply the link has failed
-abbrev pub ending_line : {S : Type 0} → Party S → Side → Ending → List ℕ
-ending_line p side (ended which) = p.end_line which
-ending_line p side inbox_full = fault_line side (Refused InboxFull)
-ending_line p side box_is_full = fault_line side (Refused BoxFull)
-ending_line p side no_such_box = fault_line side (Refused Unknown)
-ending_line p side wrong = []
-
-abbrev pub closing_line : {S : Type 0} → Party S → Side → Wait → List ℕ
-closing_line p side (over ending) = ending_line p side ending
-closing_line p side _ = fault_line side Link
-
-abbrev pub sync_lines : {S : Type 0} → Party S → Side → Meeting S → List ℕ
-sync_lines p side m = m.course.lines ++ closing_line p side m.course.wait
 
 -- a side meets the relay, with the replies before the lost one
 abbrev pub meeting_on : Mechanism → SidesBeside → Side → Option ℕ → Meeting Client

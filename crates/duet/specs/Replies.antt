@@ -1,14 +1,10 @@
--- The lines of a trace: one for each event, and after a look one for each text that it shows; and one of a sync that broke
--- off.
+-- The lines of a trace: one for each event, and after a look one for each text that it shows.
 use Rattle.std.specs.Prelude.{Bool, false, true, ℕ, List, [], ◌++◌, flat_map, codes}
 use Rattle.dr_base.specs.declared.position.Position.{Position}
 use Rattle.dr_base.specs.declared.position.Side.{Side}
 use Rattle.dr_disk.specs.declared.call.Call.{Call}
 use Rattle.dr_disk.specs.declared.call.Call.TheVariants.{Read, Sync, Write}
 use Rattle.boxes.specs.Entries.{Entry}
-use Rattle.client.specs.declared.syncing.faults.SyncFault.{SyncFault}
-use Rattle.client.specs.declared.syncing.faults.SyncFault.TheVariants.{Link, Refused}
-use Rattle.client.specs.declared.syncing.faults.SyncRefusal.TheVariants.{BoxFull, InboxFull, Unknown}
 use Rattle.session_model.specs.declared.answer.Answer.{Answer}
 use Rattle.session_model.specs.declared.answer.Answer.TheVariants.{Seeded}
 use Rattle.dr_model.specs.Machines.Steps.{Shown, Step, places, texts}
@@ -58,15 +54,3 @@ closed_line side call = side_text side ++ codes "closed " ++ call_name call ++ c
 unfoldable pub open_line : Side → Bool → List ℕ
 open_line side true = side_text side ++ codes "ready\n"
 open_line side false = side_text side ++ codes "nothing\n"
-
--- what is said of a sync that broke off
-abbrev pub fault_text : SyncFault → List ℕ
-fault_text (Refused InboxFull) = codes "refused InboxFull\n"
-fault_text (Refused BoxFull) = codes "refused BoxFull\n"
-fault_text (Refused Unknown) = codes "refused Unknown\n"
-fault_text Link = codes "link fault\n"
-fault_text _ = []
-
--- in a line of its side
-abbrev pub fault_line : Side → SyncFault → List ℕ
-fault_line side fault = side_text side ++ fault_text fault

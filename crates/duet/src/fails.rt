@@ -1,10 +1,9 @@
 //! Both sides, one of which has a disk that fails once in a call, and opens again.
 
-ghost use Rattle.std.specs.Prelude.{◌≡◌, ◌≤◌, ◌-◌, ◌^◌, ◌<◌, None, IfOk, IfSome, IsSome, length, option_map};
+ghost use Rattle.std.specs.Prelude.{◌≡◌, ◌≤◌, ◌-◌, ◌^◌, ◌<◌, None, IfOk, IfSome, IsSome, option_map};
 ghost use Rattle.dr_model.specs.Machines.Sides.{client_of, with_client};
-ghost use Rattle.duet.specs.Acts.{IsChecked, act_of_call};
+ghost use Rattle.parties.specs.Acts.{IsChecked, act_of_call};
 ghost use Rattle.duet.specs.Failing.{FailsGathering, FailsOn, FailsSides};
-ghost use Rattle.duet.specs.Gathering.{gathered, newest_from};
 ghost use Rattle.duet.specs.Held.{HasPostRoom, after_deed, beside};
 ghost use Rattle.duet.specs.Outcomes.{barring, freely_on};
 ghost use Rattle.duet.specs.Shuts.{needs_open, shut_of, with_shut};
@@ -12,11 +11,11 @@ ghost use Rattle.scripts.specs.Deeds.{reopens};
 ghost use Rattle.scripts.specs.Lined.{lined_deed};
 ghost use Rattle.scripts.specs.Seen.{call_event};
 
-use crate::acts::ClientCall;
 use crate::sides::Duet;
 use dr_base::Side;
 use dr_disk::Call;
 use kem_laws::Kem;
+use parties::ClientCall;
 use scripts::{Failure, Line, Lined};
 use session_model::Answer;
 use std::alloc::{AllocError, Global};
@@ -128,21 +127,6 @@ impl<K: Kem> Duet<K> {
             draws,
             relay,
         })
-    }
-
-    /// The network gets the newest packet of a side's outbox, if it has more than this many.
-    #[tactic(auto, using(crate::proofs::Gathering::newest_dropped))]
-    fn gather_newest(&mut self, side: Side, held: u32)
-        requires room { HasPostRoom self.old }
-        ensures { let outbox = (client_of self.old.sides side).outbox in
-            self.new ≡ record self.old {
-              sides = gathered (newest_from held (length outbox)) side self.old.sides;
-            } }
-    {
-        if self.party(side).summary().outbox > held {
-            let post = self.party(side).newest();
-            self.posts.push_reserved(post);
-        }
     }
 
     /// A side's closed client opens again, and the network gets the packet that its outbox has more.

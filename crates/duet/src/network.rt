@@ -1,15 +1,31 @@
 //! The network: it holds every packet that it got, and may change a bit of one.
 
 ghost use Rattle.std.specs.Prelude.{◌≡◌, ◌%◌, ◌^◌, ◌<◌, ◌≤◌, bit_xor, length, option_copied, option_map, slice_index, slice_set, IfSome};
-ghost use Rattle.dr_model.specs.Machines.Network.{flipped, flipped_at, held_at, held_nth, packet_given};
+ghost use Rattle.dr_base.specs.Position.{is_at};
+ghost use Rattle.dr_model.specs.Machines.Network.{flipped, flipped_at, held_at, held_nth, is_from_peer, packet_given};
 ghost use Rattle.scripts.specs.Seen.{source_of};
 
-use crate::post::{Packet, Post, is_at, is_from_peer};
 use dr_base::{PACKET_LIMIT, Position, Side, in_room};
+use parties::{Packet, Post};
 use scripts::{Source, hex_bytes};
 
 /// The value of each bit of a byte, the lowest first.
 const BITS: [u8; 8] = [1, 2, 4, 8, 16, 32, 64, 128];
+
+/// Whether a packet stands under a position.
+fn is_at(post: &Post, position: Position) -> bool
+    ensures { result ≡ is_at position post.now.position }
+{
+    let at = post.position();
+    at.epoch == position.epoch && at.index == position.index
+}
+
+/// Whether the other side than this made the packet.
+fn is_from_peer(post: &Post, side: Side) -> bool
+    ensures { result ≡ is_from_peer side post.now }
+{
+    !side.owns(post.position().epoch)
+}
 
 /// The packet of a position.
 fn held_at(posts: &[Post], position: Position) -> Option<&[u8]>

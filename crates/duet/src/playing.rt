@@ -8,12 +8,12 @@ ghost use Rattle.duet.specs.Tally.{tally_of};
 ghost use Rattle.duet.specs.Trace.{played};
 
 use crate::deeds::{Cut, play_deed};
-use crate::party::BeginError;
 use crate::sides::Duet;
 use crate::tally::Tally;
 use dr_base::Side;
 use dr_ports::Sink;
 use kem_laws::Kem;
+use parties::BeginError;
 use scripts::Script;
 use std::alloc::Global;
 

@@ -1,26 +1,36 @@
 //! What a call of a line is to a side's client: the packet that the network gives, the seed that
 //! is drawn, the amount.
 
-ghost use Rattle.std.specs.Prelude.{◌-◌, ◌^◌, ◌<◌};
+ghost use Rattle.std.specs.Prelude.{◌≡◌, ◌-◌, ◌^◌, ◌<◌};
 ghost use Rattle.dr_base.specs.Bytes.{AreBytes};
 ghost use Rattle.dr_model.specs.Machines.Events.{does, says, takes};
+ghost use Rattle.dr_model.specs.Machines.Steps.{amount_of};
 ghost use Rattle.duet.specs.Acts.{IsPrepared};
 ghost use Rattle.scripts.specs.Seen.{call_event, source_of};
 
-use crate::acts::{ClientCall, Seeded};
-use crate::amount::items_in;
 use crate::network::packet_of;
 use crate::sides::Duet;
 use dr_base::Side;
 use kem_laws::Kem;
+use parties::{ClientCall, Seeded};
 use scripts::{Call, LineCall, Source};
-use session_model::Answer;
+use session_model::{Amount, Answer};
 
 /// Bytes are below 256: a caller that needs this calls it.
 fn are_bytes(bytes: &[u8])
     ensures { AreBytes bytes.now }
 {
     let _bytes = bytes;
+}
+
+/// How many items an amount is, where this many stand.
+fn items_in(amount: Amount, standing: u32) -> u32
+    ensures { result ≡ amount_of amount standing }
+{
+    match amount {
+        Amount::All => standing,
+        Amount::Exactly(n) => n,
+    }
 }
 
 impl<K: Kem> Duet<K> {

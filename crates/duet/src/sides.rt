@@ -1,25 +1,23 @@
 //! Both sides of a conversation, with the network between them.
 
-ghost use Rattle.std.specs.Prelude.{◌≡◌, ◌+◌, ◌-◌, ◌^◌, ◌<◌, ◌≤◌, length, None, true, IfOk, IsErrOf, IsNone, IsSome};
+ghost use Rattle.std.specs.Prelude.{◌≡◌, ◌-◌, ◌^◌, ◌<◌, None, true, IfOk, IsErrOf, IsNone, IsSome};
 ghost use Rattle.dr_model.specs.Conversations.Formats.{Formats};
 ghost use Rattle.dr_model.specs.Machines.Sides.{client_of, step_on};
 ghost use Rattle.session_model.specs.Schedule.{agreement_seed};
-ghost use Rattle.duet.specs.Acts.{IsChecked, act_of_call, acted_by, alone_by};
-ghost use Rattle.duet.specs.Gathering.{gathered};
+ghost use Rattle.parties.specs.Acts.{IsChecked, act_of_call};
+ghost use Rattle.duet.specs.Acts.{acted_by, alone_by};
 ghost use Rattle.duet.specs.Held.{HasPostRoom, after_step, opening_duet, stepped};
 ghost use Rattle.duet.specs.Shuts.{asks_open, shut_of};
 ghost use Rattle.duet.specs.Tally.{both_reached};
 ghost use Rattle.scripts.specs.Sides.{acting_side};
 
-use crate::acts::ClientCall;
 use crate::draws::Draws;
-use crate::party::{BeginError, Party};
-use crate::post::Post;
 use crate::tally::{SideTally, Tally};
 use bodies::Format;
 use client::Begin;
 use dr_base::{Key32, Side};
 use kem_laws::Kem;
+use parties::{BeginError, ClientCall, Party, Post};
 use relay_link::RelayLink;
 use scripts::{Line, LineCall};
 use session_model::{Answer, Items};
@@ -126,19 +124,6 @@ impl<K: Kem> Duet<K> {
         match side {
             Side::First => self.first.act(call),
             Side::Second => self.second.act(call),
-        }
-    }
-
-    /// The network gets the packet that stands after this many in a side's outbox, if there is one.
-    #[tactic(auto, using(crate::proofs::Gathering::last_dropped))]
-    pub(crate) fn gather(&mut self, side: Side, held: u32)
-        requires room { HasPostRoom self.old }
-        requires one { length (client_of self.old.sides side).outbox ≤ held + 1 }
-        ensures { self.new ≡ record self.old { sides = gathered held side self.old.sides } }
-    {
-        if self.party(side).summary().outbox > held {
-            let post = self.party(side).newest();
-            self.posts.push_reserved(post);
         }
     }
 

@@ -4,18 +4,19 @@ ghost use Rattle.std.specs.Prelude.{◌≡◌, ◌-◌, ◌^◌, ◌<◌, None, 
 ghost use Rattle.dr_model.specs.Machines.Acts.{act_on};
 ghost use Rattle.dr_model.specs.Machines.Sides.{client_of, step_on};
 ghost use Rattle.dr_model.specs.Machines.Steps.{settled};
-ghost use Rattle.duet.specs.Acts.{IsChecked, act_of_call};
+ghost use Rattle.parties.specs.Acts.{IsChecked, act_of_call};
 ghost use Rattle.duet.specs.Gathering.{gathering, on_side};
 ghost use Rattle.duet.specs.Held.{HasPostRoom, after_step, stepped};
 ghost use Rattle.duet.specs.Shuts.{shut_of};
-ghost use Rattle.duet.specs.Stops.{stopped_client, stopped_on};
+ghost use Rattle.parties.specs.Stops.{stopped_client};
+ghost use Rattle.duet.specs.Stops.{stopped_on};
 ghost use Rattle.scripts.specs.Seen.{call_event};
 
-use crate::acts::ClientCall;
 use crate::sides::Duet;
 use dr_base::Side;
 use dr_disk::Mode;
 use kem_laws::Kem;
+use parties::ClientCall;
 use scripts::Stop;
 use session_model::Answer;
 use std::alloc::{AllocError, Global};

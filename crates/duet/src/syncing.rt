@@ -2,91 +2,14 @@
 
 ghost use Rattle.std.specs.Prelude.{◌≡◌, None, OnOk};
 ghost use Rattle.dr_ports.specs.Writing.{Writes};
-ghost use Rattle.relay_link.specs.Connections.{boxes_now, kept_before};
-ghost use Rattle.sync_model.specs.Scenes.{scene};
-ghost use Rattle.client.specs.Syncing.Parties.{client_party};
-ghost use Rattle.duet.specs.Outcomes.{sync_lines, synced_on};
+ghost use Rattle.duet.specs.Outcomes.{synced_on};
 ghost use Rattle.duet.specs.Shuts.{shut_of};
 ghost use Rattle.duet.specs.Held.{after_deed, beside};
-ghost use Rattle.duet.specs.Meetings.{Tells};
-ghost use Rattle.duet.specs.Replies.{fault_text};
-ghost use Rattle.scripts.specs.Sides.{side_text};
 
-use crate::meeting::meet;
-use crate::party::Party;
 use crate::sides::Duet;
-use client::{SyncFault, SyncRefusal};
 use dr_base::Side;
-use dr_ports::{Failed, OutputLine, Sink, write_all};
+use dr_ports::{Failed, Sink};
 use kem_laws::Kem;
-use relay_link::RelayLink;
-use scripts::{side_name, side_prefix};
-
-/// What is said of a sync that broke off.
-fn fault_text(fault: SyncFault) -> &'static [u8]
-    ensures { result.now ≡ fault_text fault }
-{
-    match fault {
-        SyncFault::Refused(SyncRefusal::InboxFull) => b"refused InboxFull\n",
-        SyncFault::Refused(SyncRefusal::BoxFull) => b"refused BoxFull\n",
-        SyncFault::Refused(SyncRefusal::Unknown) => b"refused Unknown\n",
-        SyncFault::Link => b"link fault\n",
-        _ => b"",
-    }
-}
-
-/// Writes why a sync of a side broke off, where it is no write that failed.
-fn tell<O: Sink>(out: &mut O, side: Side, fault: SyncFault) -> Result<(), Failed>
-    ensures { Tells side fault (O.at out.old) (O.at out.new) result }
-{
-    if matches!(fault, SyncFault::Write) {
-        return Err(Failed);
-    }
-    let mut line = OutputLine::new();
-    line.text(side_name(side));
-    line.text(fault_text(fault));
-    match write_all(out, line.as_bytes()) {
-        Err(Failed) => Err(Failed),
-        Ok(()) => Ok(()),
-    }
-}
-
-impl<K: Kem> Party<K> {
-    /// Syncs with the relay over another connection, on which the reply to the request of this
-    /// number, from 1, is lost.
-    fn sync<O: Sink>(
-        &mut self,
-        relay: &mut RelayLink,
-        out: &mut O,
-        side: Side,
-        lost: Option<u32>,
-    ) -> Result<(), Failed>
-        requires open { self.old.shut ≡ None }
-        ensures writes { let p = client_party K.mechanism (side_text side) self.old.kept in
-            Writes (O.at out.old) (O.at out.new)
-            (sync_lines p side (scene p (kept_before lost) self.old.kept (boxes_now relay.old)))
-            result }
-        ensures keeps { let p = client_party K.mechanism (side_text side) self.old.kept in
-            OnOk result (self.new.kept
-            ≡ (scene p (kept_before lost) self.old.kept (boxes_now relay.old)).course.state) }
-        ensures open { self.new.shut ≡ None }
-        ensures boxes { let p = client_party K.mechanism (side_text side) self.old.kept in
-            OnOk result (boxes_now relay.new
-            ≡ (scene p (kept_before lost) self.old.kept (boxes_now relay.old)).boxes) }
-    {
-        match meet(
-            &mut self.client,
-            &mut self.disk,
-            relay,
-            out,
-            side_prefix(side),
-            lost,
-        ) {
-            Ok(_) => Ok(()),
-            Err(fault) => tell(out, side, fault),
-        }
-    }
-}
 
 impl<K: Kem> Duet<K> {
     /// A side syncs with the relay. The reply to the request of this number, from 1, is lost, and

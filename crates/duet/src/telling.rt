@@ -12,7 +12,6 @@ ghost use Rattle.scripts.specs.Sides.{acting_side};
 ghost use Rattle.scripts.specs.Seen.{event_of};
 ghost use Rattle.duet.specs.Tally.{IsBelow, counted_of};
 
-use crate::party::Party;
 use crate::reply::reply;
 use crate::sides::Duet;
 use crate::tally::Tally;
@@ -20,6 +19,7 @@ use answer_lines::{place_line, text_line};
 use dr_base::Side;
 use dr_ports::{Failed, OutputLine, Sink, write_all};
 use kem_laws::Kem;
+use parties::Party;
 use scripts::{Line, side_name};
 use session_model::{Answer, Items};
 

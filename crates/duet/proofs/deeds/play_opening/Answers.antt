@@ -2,7 +2,8 @@ use Rattle.std.proofs.Common.{Option, ap, ◌∙◌}
 use Rattle.std.specs.Prelude.{option_map}
 use Rattle.session_model.specs.Clients.{Client}
 use Rattle.duet.specs.Gathering.{gathers}
-use Rattle.duet.specs.Shuts.{Shut, shut_of}
+use Rattle.parties.specs.Shuts.{Shut}
+use Rattle.duet.specs.Shuts.{shut_of}
 use Rattle.duet.proofs.PlayedDeeds.{goes_opened, goes_unopened}
 use Rattle.duet.proofs.deeds.play_opening.Goals as goal
 

@@ -5,7 +5,7 @@ use Rattle.dr_model.specs.Machines.Sides.{client_of, with_client}
 use Rattle.dr_model.specs.Machines.Steps.{settled}
 use Rattle.session_model.specs.Clients.{Client}
 use Rattle.session_model.specs.declared.answer.Summary.{Summary}
-use Rattle.duet.specs.Acts.{act_of_call}
+use Rattle.parties.specs.Acts.{act_of_call}
 use Rattle.duet.specs.Gathering.{gathered}
 use Rattle.duet.specs.Held.{DuetNow}
 use Rattle.duet.proofs.Gathering.{acted_few}

@@ -1,7 +1,7 @@
 use Rattle.std.proofs.Common.{ap, arith, length, ◌∙◌}
 use Rattle.session_model.specs.Clients.{Client}
 use Rattle.session_model.specs.declared.answer.Summary.{Summary}
-use Rattle.duet.specs.Acts.{act_of_call}
+use Rattle.parties.specs.Acts.{act_of_call}
 use Rattle.duet.proofs.FailsSides.{gathers_after, outbox_few}
 use Rattle.duet.proofs.sides.Duet.act_failed.Goals as goal
 

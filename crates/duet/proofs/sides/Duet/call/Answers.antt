@@ -1,7 +1,8 @@
 use Rattle.std.proofs.Common.{ap, sym, ◌∙◌}
 use Rattle.dr_model.specs.Machines.Sides.{Sides}
 use Rattle.dr_model.specs.Machines.Steps.{Step}
-use Rattle.duet.specs.Acts.{act_of_call, acted_by}
+use Rattle.parties.specs.Acts.{act_of_call}
+use Rattle.duet.specs.Acts.{acted_by}
 use Rattle.duet.specs.Held.{DuetNow, after_step}
 use Rattle.duet.proofs.Prepared.{left_after}
 use Rattle.duet.proofs.sides.Duet.call.Goals as goal

@@ -1,4 +1,4 @@
-use Rattle.duet.specs.Acts.{act_of_call}
+use Rattle.parties.specs.Acts.{act_of_call}
 use Rattle.duet.proofs.FailsSides.{act_fails, answer_unfailed}
 use Rattle.duet.proofs.sides.Duet.fail.Goals as goal
 

@@ -10,7 +10,7 @@ use Rattle.relay_link.proofs.Bringing.{same_boxes}
 use Rattle.client.specs.Syncing.Lines.{own_box, peers_box}
 use Rattle.duet.specs.Held.{duet_now, opening_of}
 use Rattle.duet.specs.Outcomes.{opening_boxes}
-use Rattle.duet.specs.Shuts.{PartyNow, open_party}
+use Rattle.parties.specs.Shuts.{PartyNow, open_party}
 use Rattle.duet.proofs.sides.Duet.new.Goals as goal
 
 pub returns-in-Ok-begin-2-clause-ok : goal.returns-in-Ok-begin-2-clause-ok

@@ -3,11 +3,11 @@ use Rattle.std.specs.Prelude.{IfOk}
 use Rattle.dr_model.specs.Machines.Acts.{act_on}
 use Rattle.dr_model.specs.Machines.Sides.{Sides, client_of}
 use Rattle.dr_model.specs.Machines.Steps.{Step, settled}
-use Rattle.duet.specs.Acts.{act_of_call}
+use Rattle.parties.specs.Acts.{act_of_call}
 use Rattle.duet.specs.Gathering.{gathering}
 use Rattle.duet.specs.Held.{DuetNow, after_step}
-use Rattle.duet.specs.Stops.{stopped_client}
-use Rattle.duet.proofs.Stopped.Sides.{act_stopped, answer_stopped}
+use Rattle.parties.specs.Stops.{stopped_client}
+use Rattle.duet.proofs.StopsSides.{act_stopped, answer_stopped}
 use Rattle.duet.proofs.Prepared.{left_after}
 use Rattle.duet.proofs.sides.Duet.stop.Goals as goal
 

@@ -8,7 +8,7 @@ use Rattle.relay_link.specs.Connections.{kept_before}
 use Rattle.session_model.specs.Clients.{Client}
 use Rattle.sync_model.specs.Scenes.{scene}
 use Rattle.client.specs.Syncing.Parties.{client_party}
-use Rattle.duet.specs.Outcomes.{sync_lines}
+use Rattle.parties.specs.SyncLines.{sync_lines}
 use Rattle.duet.specs.Held.{DuetNow}
 use Rattle.scripts.specs.Sides.{side_text}
 use Rattle.duet.proofs.sides.Duet.sync.Goals as goal

@@ -8,7 +8,8 @@ use Rattle.dr_model.specs.Machines.Network.{packet_given}
 use Rattle.dr_model.specs.Machines.Sides.{acted_on}
 use Rattle.session_model.specs.declared.answer.Answer.{Answer}
 use Rattle.scripts.specs.Seen.{source_of}
-use Rattle.duet.specs.Acts.{CallOfClient, IsPrepared}
+use Rattle.parties.specs.Acts.{CallOfClient}
+use Rattle.duet.specs.Acts.{IsPrepared}
 use Rattle.duet.specs.Held.{DuetNow}
 use Rattle.duet.proofs.Prepared.{packet_here}
 use Rattle.duet.proofs.sides.Duet.taking.Goals as goal

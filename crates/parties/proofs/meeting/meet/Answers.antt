@@ -1,0 +1,25 @@
+use Rattle.std.proofs.Common.{ap, subst, sym, ◌∙◌}
+use Rattle.std.specs.Prelude.{All}
+use Rattle.dr_disk.specs.MemoryDisks.{state_of}
+use Rattle.relay_core.specs.Lawful.{IsLawfulBox}
+use Rattle.relay_link.specs.Connections.{LinkConnection, behind_of, boxes_now, kept_before, connection_port}
+use Rattle.relay_wire.specs.Names.{is_name}
+use Rattle.client.specs.Syncing.Moments.{moment}
+use Rattle.client.specs.Syncing.Parties.{client_party}
+use Rattle.client.specs.Syncing.Syncs.{Syncs}
+use Rattle.parties.proofs.Meets.{plays}
+use Rattle.parties.proofs.meeting.meet.Goals as goal
+
+pub returns : goal.returns
+returns g c =
+    let k = g.K.Kem.mechanism in
+    let link = c.args.link.now in
+    let now = c.sync-result.new.link in
+    let before = moment c.args.client.now (state_of c.args.disk.now) (g.O.Sink.at c.args.out.now) in
+    let after = moment c.sync-result.new.self (state_of c.sync-result.new.disk) (g.O.Sink.at c.sync-result.new.out) in
+    plays k c.args.prefix.now (kept_before c.args.lost) (boxes_now link) before after now
+    (sym (ap is_name c.names-names.ensures.own) ∙ c.names-names.ensures.own_lawful) (sym (ap is_name c.names-names.ensures.peers) ∙ c.names-names.ensures.peers_lawful)
+    c.may_post.ensures.packets (subst (All IsLawfulBox) c.relay.ensures.boxes c.lawful.ensures) c.requires.passes
+    (c.sync-result.ensures.stands ∙ ap behind_of c.connect.ensures) c.relay-relay.ensures.lawful c.sync-result.ensures.later c.sync-result.result
+    (subst (λ (x : LinkConnection). Syncs (client_party k c.args.prefix.now c.args.client.now.kept) before after (connection_port x) (connection_port now) c.sync-result.result)
+    c.connect.ensures (c.sync-result.ensures.exact c.requires.is_open))
