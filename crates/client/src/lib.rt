@@ -8,7 +8,7 @@
 //! A client is a `Core` with the store that keeps its record. A core is the same side in memory
 //! alone: a step of it is drafted, written as a record, and only then accepted.
 //!
-//! Two sides, each on a disk of `AREA_SIZE` bytes (the crate `two_sides` is this as a program):
+//! Two sides, each on a disk of `AREA_SIZE` bytes (`examples/two-sides` is this as a program):
 //!
 //! ```rust
 //! use bodies::Format;
