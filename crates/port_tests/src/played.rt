@@ -84,12 +84,12 @@ impl<'a> Net for Played<'a> {
     }
 
     fn lookup_host(&self, _host: &str, port: u16, found: &mut [SocketAddr]) -> io::Result<usize> {
-        let mut last = 0;
-        for slot in found.iter_mut().take(2) {
-            last += 1;
-            *slot = SocketAddr::from((Ipv4Addr::new(10, 0, 0, last), port));
+        if found.len() < 2 {
+            return Ok(0);
         }
-        Ok(usize::from(last))
+        found[0] = SocketAddr::from((Ipv4Addr::new(10, 0, 0, 1), port));
+        found[1] = SocketAddr::from((Ipv4Addr::new(10, 0, 0, 2), port));
+        Ok(2)
     }
 }
 

@@ -78,14 +78,19 @@ fn are_so<L: Link>(stage: &Stage, link: &mut L, rows: &[Row]) -> bool {
     true
 }
 
-/// Whether they do over a link with a patience, or a new one.
-fn waits(patience: Option<Patience>, rows: &[Row]) -> bool {
+/// Whether they do over a link with this patience.
+fn waits(patience: Patience, rows: &[Row]) -> bool {
     let stage = Stage::new();
     let net = Played { stage: &stage };
-    let mut link = match patience {
-        Some(patience) => TcpLink::with_patience(&net, patience),
-        None => TcpLink::new(&net),
-    };
+    let mut link = TcpLink::with_patience(&net, patience);
+    are_so(&stage, &mut link, rows)
+}
+
+/// Whether they do over a new one.
+fn waits_when_new(rows: &[Row]) -> bool {
+    let stage = Stage::new();
+    let net = Played { stage: &stage };
+    let mut link = TcpLink::new(&net);
     are_so(&stage, &mut link, rows)
 }
 
@@ -99,6 +104,6 @@ fn waits_for_what_is_left(rt: HostRuntime) {
             most: Duration::from_secs(100),
         }),
     };
-    assert!(rt; waits(Some(patience), &BOUNDED));
-    assert!(rt; waits(None, &NEW));
+    assert!(rt; waits(patience, &BOUNDED));
+    assert!(rt; waits_when_new(&NEW));
 }
