@@ -15,7 +15,7 @@ use relay_wire::Name;
 use std::alloc::Global;
 use std::fs::File;
 use std::io::{Error, ErrorKind};
-use std::net::Net;
+use std::net::{Net, TcpStream};
 use std::rt::{Clock, Files};
 use std::time::Instant;
 use std::{fs, io};
@@ -113,7 +113,9 @@ fn exchange<R: Clock + AllocGlobal, D: Disk, L: Link, A: Door>(
 }
 
 /// The median time of an exchange, in microseconds.
-fn time_exchange<R: Clock + AllocGlobal + Files<File = File> + Net>(rt: &R) -> io::Result<u64> {
+fn time_exchange<R: Clock + AllocGlobal + Files<File = File> + Net<Stream = TcpStream>>(
+    rt: &R,
+) -> io::Result<u64> {
     let mut disk = FileDisk::new(rt, RELAY, DISK_SIZE, HALF_SIZE, Sharing::Alone);
     let mut link = TcpLink::new(rt);
     let mut door = TcpDoor::new(rt);
@@ -128,7 +130,9 @@ fn time_exchange<R: Clock + AllocGlobal + Files<File = File> + Net>(rt: &R) -> i
 }
 
 /// Prints a line, and removes the file.
-pub fn report<R: Clock + Print + AllocGlobal + Files<File = File> + Net>(rt: &R) -> io::Result<()> {
+pub fn report<R: Clock + Print + AllocGlobal + Files<File = File> + Net<Stream = TcpStream>>(
+    rt: &R,
+) -> io::Result<()> {
     let each = time_exchange(rt)?;
     fs::remove_file(rt, RELAY)?;
     let bare = time_bare(rt, 1)?.saturating_mul(2);
