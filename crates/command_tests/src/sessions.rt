@@ -85,7 +85,7 @@ fn packet_of_second(alloc: Global, format: Format) -> Result<Vec<u8>, Fail> {
 
 /// Whether First takes a packet of so many bytes once, which Second says in this format, shows its
 /// text, and is done with it.
-fn takes_once(alloc: Global, format: Format, bytes: usize) -> Result<bool, Fail> {
+fn takes_once(alloc: Global, format: Format, length: usize) -> Result<bool, Fail> {
     let packet = packet_of_second(alloc, format)?;
     let mut disk = new_disk(alloc)?;
     let rows: [Row<'_>; 6] = [
@@ -106,16 +106,17 @@ fn takes_once(alloc: Global, format: Format, bytes: usize) -> Result<bool, Fail>
         (Command::Done(2), &[], 3, b"refused: Fewer 1\n"),
         (Command::Done(1), &[], 0, b"done 1\n"),
     ];
-    Ok(packet.len() == 2 * bytes + 1 && all_end(alloc, &mut disk, &rows)?)
+    Ok(packet.len() == length && all_end(alloc, &mut disk, &rows)?)
 }
 
-// How many bytes each packet has: 33, the text of 5 bytes or its padding, and 32.
+// How long the line of each packet is: two digits for each of 33 bytes, of the text of 5 bytes or its
+// padding, and of 32 bytes; and a line feed.
 #[test]
 fn a_text_is_taken(rt: HostRuntime) -> Result<(), Fail> {
     let alloc = rt.alloc();
-    assert!(rt; takes_once(alloc, Format::Plain, 70)?);
-    assert!(rt; takes_once(alloc, Format::Padded, 321)?);
-    assert!(rt; takes_once(alloc, Format::Receipts, 321)?);
+    assert!(rt; takes_once(alloc, Format::Plain, 141)?);
+    assert!(rt; takes_once(alloc, Format::Padded, 643)?);
+    assert!(rt; takes_once(alloc, Format::Receipts, 643)?);
     Ok(())
 }
 
