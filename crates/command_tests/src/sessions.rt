@@ -83,7 +83,7 @@ fn packet_of_second(alloc: Global, format: Format) -> Result<Vec<u8>, Fail> {
     first_packet(alloc, &mut disk)
 }
 
-/// Whether First takes a packet of so many bytes once, which Second says in this format, shows its
+/// Whether First takes a packet whose line has this length once, which Second says in this format, shows its
 /// text, and is done with it.
 fn takes_once(alloc: Global, format: Format, length: usize) -> Result<bool, Fail> {
     let packet = packet_of_second(alloc, format)?;
