@@ -83,8 +83,8 @@ fn packet_of_second(alloc: Global, format: Format) -> Result<Vec<u8>, Fail> {
     first_packet(alloc, &mut disk)
 }
 
-/// Whether First takes a packet whose line has this length once, which Second says in this format, shows its
-/// text, and is done with it.
+/// Whether First takes a packet once, whose line has this length and which Second says in this
+/// format, shows its text, and is done with it.
 fn takes_once(alloc: Global, format: Format, length: usize) -> Result<bool, Fail> {
     let packet = packet_of_second(alloc, format)?;
     let mut disk = new_disk(alloc)?;
