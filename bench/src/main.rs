@@ -1,6 +1,7 @@
 //! Measures the messenger: medians of many runs. The word `run` measures the path of a text, the word `ring` the
 //! arithmetic of the key encapsulation, a turn and the three formats, the word `store` a record in memory and on a
-//! file, a relay over loopback, and a client on a file. Without a word it prints one fixed line.
+//! file, a relay over loopback, and a client on a file. The word `ratios` says whether what is measured side by side keeps
+//! within wide bounds. Without a word it prints one fixed line.
 #![tactic(auto)]
 
 use std::{env, io};
@@ -12,6 +13,7 @@ mod mechanism;
 mod message;
 mod network;
 mod party;
+mod ratios;
 mod record;
 mod relay;
 mod ring;
@@ -39,7 +41,8 @@ fn measure(rt: &HostRuntime, word: &str) -> io::Result<()> {
             network::report(rt)?;
             session::report(rt)
         }
-        _ => println!(rt; "bench: give the word run, ring or store, and wait some seconds"),
+        "ratios" => ratios::report(rt),
+        _ => println!(rt; "bench: give the word run, ring, store or ratios, and wait some seconds"),
     }
 }
 

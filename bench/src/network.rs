@@ -1,7 +1,6 @@
 //! A packet posted, fetched and acknowledged at a relay on a real file, over loopback, beside the bare writes and syncs of
 //! its box's records.
 
-ghost use Rattle.relay_core.specs.Record.{box_text};
 ghost use Rattle.relay_server.specs.Durable.{IsServerReady};
 
 use crate::clock::Times;
@@ -9,6 +8,7 @@ use crate::store::time_bare;
 use dr_disk::Disk;
 use file_disk::{FileDisk, Sharing};
 use dr_ports::{Door, Link};
+use relay_core::BoxSpec;
 use relay_pipe::send_all;
 use relay_server::{HALF_SIZE, Server, UPPER_START};
 use relay_wire::Name;
@@ -74,7 +74,7 @@ fn serve_once<R: Clock, D: Disk, L: Link, A: Door>(
     bytes: &[u8],
     times: &mut Times,
 ) -> io::Result<()>
-    requires { IsServerReady box_text server.old (D.state disk.old) }
+    requires { IsServerReady server.old (D.state disk.old) }
 {
     let start = Instant::now(rt)?;
     let connected = link.open(ADDRESS).is_ok()
@@ -106,7 +106,7 @@ fn exchange<R: Clock + AllocGlobal, D: Disk, L: Link, A: Door>(
         return Err(Error::from(ErrorKind::InvalidInput));
     }
     let bytes = requests(rt.alloc(), number)?;
-    match Server::open(rt.alloc(), disk, &[name]) {
+    match Server::open(rt.alloc(), disk, &[BoxSpec { name }]) {
         Ok(mut server) => serve_once(rt, &mut server, disk, link, door, &bytes, times),
         Err(_) => Err(Error::from(ErrorKind::InvalidData)),
     }

@@ -92,7 +92,9 @@ fn take<K: Kem>(party: &mut Party<K>, work: &mut K::Work, packet: &[u8], room: &
         return;
     };
     if let Ok(draft) = party.session.draft_receive(work, &view, room) {
-        let _pushed = party.inbox.push(draft.position(), draft.text());
+        let _pushed = party
+            .inbox
+            .push(draft.position(), draft.kind(), draft.text());
         draft.accept(&mut party.session);
         let _done = party.inbox.drop_first(1);
     }

@@ -3,7 +3,7 @@
 use crate::clock::Times;
 use crate::party::seed_of;
 use bodies::Format;
-use boxes::{Inbox, Outbox};
+use boxes::{Inbox, Outbox, TEXT_KIND};
 use dr_base::{INBOX_LIMIT, Key32, OUTBOX_LIMIT, Position, Side, TEXT_LIMIT};
 use kem_laws::Kem;
 use ratchet::{PacketRoom, Session};
@@ -35,7 +35,7 @@ fn fill_outbox<K: Kem>(session: &mut Session<K>, work: &mut K::Work, outbox: &mu
 /// Puts as many texts of the peer's into the inbox as it holds.
 fn fill_inbox(inbox: &mut Inbox) {
     for index in 1..=INBOX_LIMIT as u32 {
-        let _pushed = inbox.push(Position { epoch: 0, index }, &[6; TEXT_LIMIT]);
+        let _pushed = inbox.push(Position { epoch: 0, index }, TEXT_KIND, &[6; TEXT_LIMIT]);
     }
 }
 

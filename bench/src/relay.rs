@@ -3,7 +3,7 @@
 ghost use Rattle.std.specs.Prelude.{◌<◌};
 
 use crate::clock::Times;
-use relay_core::Relay;
+use relay_core::{BoxSpec, Relay};
 use relay_wire::{FRAME_LIMIT, FrameReader, Name, Packet, Request, parse_request, write_request};
 use std::alloc::Global;
 use std::io;
@@ -56,7 +56,7 @@ fn time_posts<R: Clock + AllocGlobal>(rt: &R, frame: &[u8]) -> io::Result<u64> {
     let Some(name) = Name::new(b"a") else {
         return Ok(0);
     };
-    let mut relay = Relay::new(alloc, &[name.copied()])?;
+    let mut relay = Relay::new(alloc, &[BoxSpec { name: name.copied() }])?;
     let mut reader = FrameReader::new(alloc)?;
     let mut out = [0; FRAME_LIMIT];
     let mut number: u64 = 0;

@@ -13,7 +13,7 @@ use std::time::Instant;
 const RUNS: usize = 21;
 
 /// An element without a pattern: a number is drawn for each coefficient.
-fn element() -> R3 {
+pub fn element() -> R3 {
     let mut coefficients = [0i16; 761];
     let mut state: u32 = 1;
     'places: for k in 0..761 {

@@ -40,7 +40,7 @@ struct Rounds {
 }
 
 /// The client of a side, begun on a new file.
-fn begin<K: Kem, D: Disk>(alloc: Global, side: Side, disk: &mut D) -> io::Result<()> {
+pub fn begin<K: Kem, D: Disk>(alloc: Global, side: Side, disk: &mut D) -> io::Result<()> {
     if disk.size() < AREA_SIZE {
         return Err(Error::from(ErrorKind::InvalidInput));
     }
@@ -133,7 +133,7 @@ fn take_two<K: Kem, D: Disk, R: Clock>(
 }
 
 /// The client that a disk holds.
-fn opened<K: Kem, D: Disk>(alloc: Global, disk: &mut D) -> io::Result<Client<K>>
+pub fn opened<K: Kem, D: Disk>(alloc: Global, disk: &mut D) -> io::Result<Client<K>>
     ensures { IfOk result (λ client. client.closed ≡ None → IsReady client.kept client.store (D.state disk.new)) }
 {
     if disk.size() < AREA_SIZE {

@@ -20,16 +20,17 @@ const TURNS: usize = 201;
 /// What is said.
 const TEXT: [u8; 100] = [1; 100];
 
-/// Passes texts of one side in an epoch, and adds the time of each.
+/// Passes so many texts of one side in an epoch, and adds the time of each.
 fn pass_texts<K: Kem, R: Clock>(
     rt: &R,
     from: &mut Party<K>,
     to: &mut Party<K>,
     work: &mut K::Work,
+    texts: usize,
     times: &mut Times,
 ) -> io::Result<()> {
     let mut rooms = Rooms::new();
-    for _ in 0..TEXTS {
+    for _ in 0..texts {
         let start = Instant::now(rt)?;
         pass(from, to, work, (&TEXT, 1), &mut rooms);
         times.add(rt, start)?;
@@ -60,10 +61,11 @@ fn pass_turns<K: Kem, R: Clock>(
 }
 
 /// The median time of a text in an epoch, said by one side and taken by the other while so many keys are kept, in nanoseconds.
-fn time_text<K: Kem, R: Clock + AllocGlobal>(
+pub fn time_text<K: Kem, R: Clock + AllocGlobal>(
     rt: &R,
     work: &mut K::Work,
     kept: usize,
+    texts: usize,
 ) -> io::Result<u64> {
     let (mut first, mut second) = parties::<K>(rt.alloc(), work, Format::Plain)?;
     let mut room = PacketRoom::new();
@@ -72,7 +74,7 @@ fn time_text<K: Kem, R: Clock + AllocGlobal>(
         let _lost = second.outbox.drop_first(1);
     }
     let mut times = Times::new(rt.alloc());
-    pass_texts(rt, &mut second, &mut first, work, &mut times)?;
+    pass_texts(rt, &mut second, &mut first, work, texts, &mut times)?;
     times.median()
 }
 
@@ -87,9 +89,9 @@ fn time_turn<K: Kem, R: Clock + AllocGlobal>(rt: &R, work: &mut K::Work) -> io::
 /// Prints a line for each.
 pub fn report<R: Clock + Print + AllocGlobal>(rt: &R) -> io::Result<()> {
     let mut work = Sntrup761::work(rt.alloc())?;
-    let text = time_text::<OpenKem, R>(rt, &mut (), 0)?;
-    let half = time_text::<OpenKem, R>(rt, &mut (), KEPT_LIMIT / 2)?;
-    let full = time_text::<OpenKem, R>(rt, &mut (), KEPT_LIMIT)?;
+    let text = time_text::<OpenKem, R>(rt, &mut (), 0, TEXTS)?;
+    let half = time_text::<OpenKem, R>(rt, &mut (), KEPT_LIMIT / 2, TEXTS)?;
+    let full = time_text::<OpenKem, R>(rt, &mut (), KEPT_LIMIT, TEXTS)?;
     let stand_in = time_turn::<OpenKem, R>(rt, &mut ())?;
     let turn = time_turn::<Sntrup761, R>(rt, &mut work)?;
     println!(rt;

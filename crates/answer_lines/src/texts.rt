@@ -1,13 +1,14 @@
 //! The lines of texts: those of an inbox, and the positions of those that wait for a receipt.
 
 ghost use Rattle.std.specs.Prelude.{◌≡◌, ℕ, ◌+◌, ◌≤◌, List, ◌++◌, length};
-ghost use Rattle.boxes.specs.Entries.{entry_under};
+ghost use Rattle.boxes.specs.Seen.{entry_seen};
 ghost use Rattle.answer_lines.specs.declared.texts.TheConstants.{HEAD_LIMIT, TEXT_LINE_LIMIT};
 ghost use Rattle.answer_lines.specs.Texts.{escaped, is_plain, place_line, text_line};
 ghost use Rattle.answer_lines.specs.Limits.{HasLimits};
 
 use crate::answers::put_position;
 use arrayvec::ArrayVec;
+use boxes::Entry;
 use dr_base::{Position, TEXT_LIMIT};
 use dr_ports::OutputLine;
 
@@ -48,17 +49,18 @@ fn put_escaped(line: &mut TextLine, byte: u8)
 /// The line of a text with its position, after a head, as a side's name: `HEAD t.i "text"`, in
 /// which each byte that isn't printable, a quote or a backslash is `\x` and two hex digits.
 #[tactic(auto, unfolding(crate::specs::Texts::text_line))]
-pub fn text_line(head: &[u8], position: Position, text: &[u8]) -> TextLine
+pub fn text_line(head: &[u8], entry: &Entry<'_>) -> TextLine
     requires head { length head.now ≤ HEAD_LIMIT }
-    requires text { length text.now ≤ TEXT_LIMIT }
-    ensures { result.items ≡ text_line head.now (entry_under position text.now) }
+    requires text { length entry.now.text.now ≤ TEXT_LIMIT }
+    ensures { result.items ≡ text_line head.now (entry_seen entry.now) }
 {
     let mut begin = OutputLine::new();
     begin.text(head);
-    put_position(&mut begin, position);
+    put_position(&mut begin, entry.position);
     begin.text(b" \"");
     let mut line = TextLine::new();
     line.try_extend_from_slice(begin.as_bytes()).unwrap();
+    let text = entry.text;
     'bytes: for byte in text {
         put_escaped(&mut line, *byte);
     }

@@ -68,12 +68,12 @@ module _ (side : Side) (missing : List Position) (reached : Position) (listed : 
 
 -- ---- all of them, or the first
 
-abbrev made_by : Bool → List Position → Position → Receipt
+abbrev pub made_by : Bool → List Position → Position → Receipt
 made_by all missing reached =
     if all then record { bound = reached; listed = missing }
     else record { bound = get_or missing (RECEIPT_LIMIT - 1) reached; listed = take RECEIPT_LIMIT missing }
 
-lawful_by : (all : Bool) (side : Side) (missing : List Position) (reached : Position) → nat_le (length missing) RECEIPT_LIMIT ≡ all
+pub lawful_by : (all : Bool) (side : Side) (missing : List Position) (reached : Position) → nat_le (length missing) RECEIPT_LIMIT ≡ all
     → AreListed side reached missing → IsLawfulReceipt side (made_by all missing reached)
 lawful_by true side missing reached few listed = record { few = leb-true (length missing) RECEIPT_LIMIT few; listed = listed }
 lawful_by false side missing reached many listed = first-lawful side missing reached listed (grind (arith, nat_tests))
@@ -86,7 +86,7 @@ receipt-lawful side missing reached listed = lawful_by (nat_le (length missing) 
 -- ---- what is covered isn't missing
 
 -- the place of one that passes
-any_place : {X : Type 0} (test : X → Bool) (xs : List X) → list_any test xs ≡ true
+pub any_place : {X : Type 0} (test : X → Bool) (xs : List X) → list_any test xs ≡ true
     → (j : ℕ) × (j < length xs) × ((d : X) → test (get_or xs j d) ≡ true)
 any_place test [] h = cc
 any_place test (x ∷ xs) h =

@@ -11,7 +11,7 @@ use Rattle.grammar.proofs.Combined.{both_grammar}
 use Rattle.bodies.specs.Bodies.{Body, body_read, body_text, head_field, body_head, is_content, with_content}
 use Rattle.bodies.specs.Receipts.{Receipt, receipt_field, receipt_text}
 use Rattle.dr_base.specs.declared.limits.TheConstants.{RECEIPTS}
-use Rattle.bodies.specs.declared.limits.TheConstants.{TEXT_KIND}
+use Rattle.boxes.specs.declared.kinds.TheConstants.{TEXT_KIND}
 use Rattle.bodies.proofs.Passing.{PassesOrNone}
 use Rattle.bodies.proofs.ReceiptGrammar.{receipt_grammar}
 

@@ -3,6 +3,7 @@ pub mod Passing
 pub mod ReceiptGrammar
 pub mod Listed
 pub mod Covered
+pub mod Enough
 pub mod Heads
 pub mod Lengths
 pub mod Sealed

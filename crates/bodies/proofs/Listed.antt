@@ -37,7 +37,7 @@ is-before p q h =
 pub up_to_is : (q p : Position) → is_up_to q p ≡ true → IsUpTo q p
 up_to_is q p h = (grind (arith, nat_tests), λ same. grind (arith, nat_tests))
 
-is-up_to : (q p : Position) → IsUpTo q p → is_up_to q p ≡ true
+pub is-up_to : (q p : Position) → IsUpTo q p → is_up_to q p ≡ true
 is-up_to q p h =
     let low = h.0 in
     let high = h.1 in

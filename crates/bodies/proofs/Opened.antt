@@ -1,9 +1,10 @@
--- Where the content of opened bytes stands in them, and that it isn't too long: of all numbers, also of those that are
--- no bytes.
+-- Where the content of opened bytes stands in them, that it is a text, and that it isn't too long: of all numbers, also of
+-- those that are no bytes.
 use Rattle.std.proofs.Common.{◌≡◌, ℕ, ◌+◌, ◌-◌, ◌==◌, ◌≤◌, Bool, true, false, List, length, take, drop, Option, Some, None, Result, Ok, Err, refl, sym, ◌∙◌, ap, subst, arith, if◌then◌else◌}
 use Rattle.std.specs.Prelude.{◌≢◌, nat_le}
 use Rattle.std.specs.Int.{w16}
 use Rattle.std.proofs.lemmas.Bool.{and_parts, leb-true}
+use Rattle.std.proofs.lemmas.Bool.Decides.{Decides-eqb}
 use Rattle.std.proofs.lemmas.List.{drop-drop, drop-take, length-drop, length-take, take_all}
 use Rattle.dr_base.specs.declared.limits.TheConstants.{PLAIN, RECEIPTS, TEXT_LIMIT}
 use Rattle.dr_base.specs.declared.position.Side.{Side}
@@ -11,7 +12,8 @@ use Rattle.grammar.specs.Reader.{Read, Reader, both, checked, ended, number, pie
 use Rattle.grammar.proofs.Steps.{from_test}
 use Rattle.bodies.specs.Bodies.{Body, HasContentAt, as_body, body_place, body_read, head_field, body_head, opened_body, text_body}
 use Rattle.bodies.specs.Padding.{filling, are_zeros, text_field, padded_field, found, unpadded}
-use Rattle.bodies.specs.declared.limits.TheConstants.{BODY_LIMIT, TEXT_KIND}
+use Rattle.bodies.specs.declared.limits.TheConstants.{BODY_LIMIT}
+use Rattle.boxes.specs.declared.kinds.TheConstants.{TEXT_KIND}
 use Rattle.bodies.proofs.Heads.{from_head}
 use Rattle.bodies.proofs.Lengths.{is_other, length-body_head}
 use Rattle.bodies.proofs.HeadsTaken.{size_by, takes-head}
@@ -83,6 +85,7 @@ unpadded-place most bytes text h =
 
 record WasOpened (version : ℕ) (plain : Bool) (bytes : List ℕ) (body : Body) : Type 0 where
   place : HasContentAt bytes (if plain then 0 else 2 + length (body_head version body)) body.content
+  kind : body.kind ≡ TEXT_KIND
   fits : plain ≡ false → length body.content ≤ TEXT_LIMIT
 
 whole_content : (bytes : List ℕ) → HasContentAt bytes 0 bytes
@@ -116,6 +119,7 @@ from_text version side (Some text) bytes body was h =
     (record {
       place = subst (λ (n : ℕ). HasContentAt bytes (2 + n) x.rest) (sym long)
           (subst (HasContentAt bytes (2 + size)) (sym taken.rest_is) (rest_of bytes text 2 size (was text refl) taken.inside));
+      kind = (Decides-eqb x.value.1 TEXT_KIND).0 content.0;
       fits = λ _. leb-true (length x.rest) TEXT_LIMIT content.1;
     })
 
@@ -125,7 +129,7 @@ opened_by : (version : ℕ) (side : Side) (plain : Bool) (bytes : List ℕ) (bod
 opened_by version side true bytes body h =
     let given : Some (text_body bytes) ≡ Some body = h in
     let same : text_body bytes ≡ body = cc in
-    subst (WasOpened version true bytes) same (record { place = whole_content bytes; fits = λ padded. cc })
+    subst (WasOpened version true bytes) same (record { place = whole_content bytes; kind = refl; fits = λ padded. cc })
 opened_by version side false bytes body h =
     from_text version side (unpadded BODY_LIMIT bytes) bytes body (λ text is. unpadded-place BODY_LIMIT bytes text is) h
 
@@ -142,6 +146,11 @@ pub opened-place : (version : ℕ) (side : Side) (bytes : List ℕ) (body : Body
     → opened_body version side bytes ≡ Some body → HasContentAt bytes (body_place version body) body.content
 unfolding opened_body
 opened-place version side bytes body h = (opened_by version side (version == PLAIN) bytes body h).place
+
+pub opened-kind : (version : ℕ) (side : Side) (bytes : List ℕ) (body : Body)
+    → opened_body version side bytes ≡ Some body → body.kind ≡ TEXT_KIND
+unfolding opened_body
+opened-kind version side bytes body h = (opened_by version side (version == PLAIN) bytes body h).kind
 
 pub opened-fits : (version : ℕ) (side : Side) (bytes : List ℕ) (body : Body)
     → opened_body version side bytes ≡ Some body → version ≢ PLAIN → length body.content ≤ TEXT_LIMIT

@@ -13,7 +13,8 @@ use Rattle.bodies.specs.Bodies.{Body, as_body, body_text, body_head, opened_body
 use Rattle.bodies.specs.Lawful.{IsLawfulBody, IsReceiptOrNone}
 use Rattle.bodies.specs.Padding.{filling, padded, unpadded}
 use Rattle.bodies.specs.Receipts.{Receipt}
-use Rattle.bodies.specs.declared.limits.TheConstants.{BODY_LIMIT, TEXT_KIND}
+use Rattle.bodies.specs.declared.limits.TheConstants.{BODY_LIMIT}
+use Rattle.boxes.specs.declared.kinds.TheConstants.{TEXT_KIND}
 use Rattle.bodies.proofs.Heads.{Head, Passes, PassesHead, body-only, body-reads, head_of}
 use Rattle.bodies.proofs.Lengths.{differs, not_told, short-head}
 use Rattle.bodies.proofs.Listed.{or-lawful, or-passes}

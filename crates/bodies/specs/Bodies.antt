@@ -7,7 +7,8 @@ use Rattle.dr_base.specs.declared.position.Side.{Side}
 use Rattle.grammar.specs.Reader.{Read, Reader, both, gives, number}
 use Rattle.bodies.specs.Padding.{padded, unpadded}
 use Rattle.bodies.specs.Receipts.{Receipt, receipt_field, receipt_text}
-use Rattle.bodies.specs.declared.limits.TheConstants.{BODY_LIMIT, TEXT_KIND}
+use Rattle.bodies.specs.declared.limits.TheConstants.{BODY_LIMIT}
+use Rattle.boxes.specs.declared.kinds.TheConstants.{TEXT_KIND}
 
 -- what an opened packet holds
 pub record Body : Type 0 where

@@ -7,7 +7,7 @@ use Rattle.dr_base.specs.declared.position.Position.{Position}
 use Rattle.dr_base.specs.declared.position.Side.{Side}
 use Rattle.bodies.specs.Bodies.{Body}
 use Rattle.bodies.specs.Receipts.{Receipt}
-use Rattle.bodies.specs.declared.limits.TheConstants.{TEXT_KIND}
+use Rattle.boxes.specs.declared.kinds.TheConstants.{TEXT_KIND}
 
 -- its numbers fit their fields
 pub record FitsFields (p : Position) : Type 0 where

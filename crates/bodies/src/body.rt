@@ -3,9 +3,10 @@
 ghost use Rattle.std.specs.Prelude.{◌≡◌, ◌+◌, ◌≤◌, length};
 ghost use Rattle.bodies.specs.Bodies.{body_place, body_text, body_head, text_body};
 
-use crate::limits::{BODY_LIMIT, TEXT_KIND};
+use crate::limits::BODY_LIMIT;
 use crate::padding::LENGTH;
 use crate::receipt::{Receipt, receipt_len};
+use boxes::TEXT_KIND;
 use dr_base::{PLAIN, RECEIPTS, TEXT_LIMIT};
 use std::marker::Model;
 

@@ -1,7 +1,9 @@
 //! The laws of bodies.
 
-ghost use Rattle.std.specs.Prelude.{◌≡◌, ◌≢◌, ℕ, ◌+◌, ◌*◌, ◌%◌, ◌<◌, ◌≤◌, true, List, length, Some};
+ghost use Rattle.std.specs.Prelude.{◌≡◌, ◌≢◌, ℕ, ◌+◌, ◌-◌, ◌*◌, ◌%◌, ◌<◌, ◌≤◌, true, List, length, slice_index_or, Some};
 ghost use Rattle.dr_base.specs.Bytes.{AreBytes};
+ghost use Rattle.dr_base.specs.Position.{IsUpTo};
+ghost use Rattle.dr_base.specs.declared.limits.TheConstants.{RECEIPT_LIMIT};
 ghost use Rattle.dr_base.specs.declared.position.Position.{Position};
 ghost use Rattle.dr_base.specs.declared.position.Side.{Side};
 ghost use Rattle.bodies.specs.Bodies.{Body, HasContentAt, body_place, body_text, opened_body, sealed_body};
@@ -29,13 +31,25 @@ pub fn bodies_law()
 {}
 
 /// The receipt of whoever misses some texts of a side, and has opened all others up to a position,
-/// is one that the side may open, and what it covers was opened. The function has no code.
+/// is one that the side may open, and what it covers was opened. It covers all that was opened, as
+/// far as it may list what wasn't. The function has no code.
 pub fn receipts_law()
     ensures lawful { (side : Side) (missing : List Position) (reached : Position)
         → AreListed side reached missing → IsLawfulReceipt side (receipt_up_to missing reached) }
     ensures covers { (side : Side) (missing : List Position) (reached p : Position)
         → AreListed side reached missing → is_covered_by (receipt_up_to missing reached) p ≡ true
         → IsOpenedAt side missing reached p }
+    // It says enough: all that was opened, or where more are missing than it lists, all up to the
+    // last that it lists.
+    ensures covers_all { (side : Side) (missing : List Position) (reached p : Position)
+        → AreListed side reached missing → length missing ≤ RECEIPT_LIMIT
+        → IsOpenedAt side missing reached p
+        → is_covered_by (receipt_up_to missing reached) p ≡ true }
+    ensures covers_first { (side : Side) (missing : List Position) (reached p : Position)
+        → AreListed side reached missing → RECEIPT_LIMIT < length missing
+        → IsOpenedAt side missing reached p
+        → IsUpTo (slice_index_or missing (RECEIPT_LIMIT - 1) reached) p
+        → is_covered_by (receipt_up_to missing reached) p ≡ true }
 {}
 
 /// How long sealed bytes are: as their content, or the least multiple of 256 that holds what is

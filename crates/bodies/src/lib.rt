@@ -8,8 +8,8 @@
 //!
 //! `specs/Bodies` defines all three, sealed and opened, and `specs/Receipts` what receipts are and
 //! what they cover. `bodies_law` says that what was sealed is opened, and nothing else,
-//! `receipts_law` that what an honest receipt covers was opened, `lengths_law` how many bytes are
-//! sealed.
+//! `receipts_law` that what an honest receipt covers was opened, and that it covers what was,
+//! `lengths_law` how many bytes are sealed.
 //!
 //! ```rust
 //! use bodies::{Body, open_body, put_sealed, sealed_len};
@@ -25,9 +25,10 @@
 #![tactic(auto)]
 
 pub use body::{Body, body_place};
+pub use boxes::TEXT_KIND;
 pub use format::Format;
 pub use law::{bodies_law, lengths_law, receipts_law};
-pub use limits::{BODY_LIMIT, TEXT_KIND, limits_in_numbers};
+pub use limits::{BODY_LIMIT, limits_in_numbers};
 pub use opening::open_body;
 pub use receipt::{Receipt, is_covered};
 pub use sealing::{put_sealed, sealed_len};

@@ -4,9 +4,6 @@ ghost use Rattle.bodies.specs.Limits.{HasLimits};
 
 use dr_base::{RECEIPT_LIMIT, TEXT_LIMIT};
 
-/// The kind of a content that is a text.
-pub const TEXT_KIND: u8 = 0;
-
 /// A position's bytes: its epoch and its index.
 pub(crate) const POSITION_LEN: usize = 4 + 4;
 

@@ -6,9 +6,10 @@ ghost use Rattle.bodies.specs.Bodies.{HasContentAt, body_place, body_read, is_co
 ghost use Rattle.bodies.specs.Padding.{are_zeros, padded_field, unpadded};
 
 use crate::body::Body;
-use crate::limits::{BODY_LIMIT, TEXT_KIND};
+use crate::limits::BODY_LIMIT;
 use crate::padding::filling;
 use crate::reading::read_head;
+use boxes::TEXT_KIND;
 use dr_base::{PLAIN, Side, TEXT_LIMIT};
 use grammar::Cursor;
 

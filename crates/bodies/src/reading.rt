@@ -6,9 +6,9 @@ ghost use Rattle.grammar.specs.Standing.{Reads};
 ghost use Rattle.bodies.specs.Bodies.{head_field};
 ghost use Rattle.bodies.specs.Receipts.{bound_field, is_listed, listed_behind, listed_item, receipt_field};
 
-use crate::limits::TEXT_KIND;
 use crate::receipt::{Receipt, is_before, is_up_to};
 use arrayvec::ArrayVec;
+use boxes::TEXT_KIND;
 use dr_base::{Position, RECEIPT_LIMIT, RECEIPTS, Side};
 use grammar::Cursor;
 

@@ -1,16 +1,22 @@
 -- What the inbox holds: a list of entries, the oldest first.
 use Rattle.std.specs.Prelude.{ℕ, List}
 use Rattle.boxes.specs.Items.{Item}
+use Rattle.boxes.specs.declared.kinds.TheConstants.{TEXT_KIND}
 use Rattle.dr_base.specs.declared.position.Position.{Position}
 
--- a text of the peer's, under its position
+-- a content of the peer's, under its position, and of which kind it is
 pub record Entry : Type 0 where
   pub position : Position
+  pub kind : ℕ
   pub text : List ℕ
 
+abbrev pub entry_with : Position → ℕ → List ℕ → Entry
+entry_with position kind text = record { position = position; kind = kind; text = text }
+
+-- the entry of a text
 abbrev pub entry_under : Position → List ℕ → Entry
-entry_under position text = record { position = position; text = text }
+entry_under position text = entry_with position TEXT_KIND text
 
 -- the entry that stands in a room
 abbrev pub as_entry : Item → Entry
-as_entry item = entry_under item.position item.bytes
+as_entry item = entry_with item.position item.kind item.bytes

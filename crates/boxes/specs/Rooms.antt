@@ -3,10 +3,11 @@ use Rattle.std.specs.Prelude.{◌≤◌, ℕ, List, [], ◌++◌, All, length, m
 use Rattle.std.specs.List.{range_with_len}
 use Rattle.std.specs.List.Sorted.{IsPermutation}
 use Rattle.boxes.specs.Items.{Item, item_at}
+use Rattle.boxes.specs.declared.kinds.TheConstants.{TEXT_KIND}
 
 -- what stands where there is no room
 abbrev pub no_item : Item
-no_item = item_at (record { epoch = 0; index = 0 }) []
+no_item = item_at (record { epoch = 0; index = 0 }) TEXT_KIND []
 
 -- the item in the room of a number
 abbrev pub item_in : List Item → ℕ → Item

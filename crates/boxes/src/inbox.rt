@@ -1,8 +1,8 @@
-//! The inbox: the texts that came in, each under its position.
+//! The inbox: the texts that came in, each under its position, with its kind.
 
 ghost use Rattle.std.specs.Prelude.{◌≡◌, ◌<◌, ◌≤◌, ◌↔◌, [], length, All, option_map, slice_get, IsSome, IfOk, IfSome};
 ghost use Rattle.boxes.specs.Changes.{Pushes, DropsFirst};
-ghost use Rattle.boxes.specs.Entries.{entry_under};
+ghost use Rattle.boxes.specs.Entries.{entry_with};
 
 use crate::errors::{Fewer, Full};
 use crate::row::Row;
@@ -10,10 +10,11 @@ use dr_base::{INBOX_LIMIT, Position, TEXT_LIMIT};
 use std::alloc::{AllocError, Global};
 use std::marker::Model;
 
-/// A text of the inbox, and its position in the conversation.
+/// A text of the inbox, its kind, and its position in the conversation.
 #[derive(Clone, Copy)]
 pub struct Entry<'a> {
     pub position: Position,
+    pub kind: u8,
     pub text: &'a [u8],
 }
 
@@ -45,15 +46,15 @@ impl Inbox {
         Ok(Inbox { row })
     }
 
-    /// Appends a text under its position.
-    pub fn push(&mut self, position: Position, text: &[u8]) -> Result<(), Full>
+    /// Appends a text of a kind under its position.
+    pub fn push(&mut self, position: Position, kind: u8, text: &[u8]) -> Result<(), Full>
         requires { length text.now ≤ TEXT_LIMIT }
-        ensures { Pushes INBOX_LIMIT self.old self.new (entry_under position text.now) result }
+        ensures { Pushes INBOX_LIMIT self.old self.new (entry_with position kind text.now) result }
     {
-        self.row.push(position, text)
+        self.row.push(position, kind, text)
     }
 
-    /// The text at a place, from 0, the oldest first.
+    /// The text at a place and its kind, from 0, the oldest first.
     pub fn at(&self, at: usize) -> Option<Entry<'_>>
         ensures variant { IsSome result ↔ (at < length self.now) }
         ensures entry { option_map entry_seen result ≡ slice_get self.now at }
@@ -62,6 +63,7 @@ impl Inbox {
         match self.row.at(at) {
             Some(stored) => Some(Entry {
                 position: stored.position(),
+                kind: stored.kind(),
                 text: stored.bytes(),
             }),
             None => None,

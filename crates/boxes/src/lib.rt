@@ -6,11 +6,11 @@
 //! `Row` is such a list at any limit and any greatest size.
 //!
 //! ```rust
-//! use boxes::{Fewer, Inbox};
+//! use boxes::{Fewer, Inbox, TEXT_KIND};
 //! use dr_base::Position;
 //!
 //! let mut inbox = Inbox::new(alloc)?;
-//! let pushed = inbox.push(Position { epoch: 1, index: 1 }, b"hi");
+//! let pushed = inbox.push(Position { epoch: 1, index: 1 }, TEXT_KIND, b"hi");
 //! if let Some(oldest) = inbox.at(0) {
 //!     let text: &[u8] = oldest.text;
 //! }
@@ -21,10 +21,12 @@
 
 pub use errors::{Fewer, Full};
 pub use inbox::{Entry, Inbox};
+pub use kinds::TEXT_KIND;
 pub use outbox::Outbox;
 pub use row::{Row, Stored};
 
 mod errors;
 mod inbox;
+mod kinds;
 mod outbox;
 mod row;

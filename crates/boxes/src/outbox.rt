@@ -10,6 +10,9 @@ use dr_base::{OUTBOX_LIMIT, PACKET_LIMIT, Position};
 use std::alloc::{AllocError, Global};
 use std::marker::Model;
 
+/// The kind under which packets stand in the row, which nobody asks for.
+const NO_KIND: u8 = 0;
+
 /// The packets that wait to go out. A contract sees the list of them, the oldest first.
 ///
 /// It has room for `OUTBOX_LIMIT` packets of `PACKET_LIMIT` bytes, taken when it is made.
@@ -41,7 +44,7 @@ impl Outbox {
         requires { length packet.now ≤ PACKET_LIMIT }
         ensures { Pushes OUTBOX_LIMIT self.old self.new (post_under position packet.now) result }
     {
-        self.row.push(position, packet)
+        self.row.push(position, NO_KIND, packet)
     }
 
     /// The packet at a place, from 0, the oldest first, and its position.

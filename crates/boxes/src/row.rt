@@ -12,10 +12,11 @@ use dr_base::{Position, in_room};
 use std::alloc::{AllocError, Global};
 use std::marker::Model;
 
-/// One item of a row: a position, and at most `ROOM` bytes in room of their own.
+/// One item of a row: a position, a kind, and at most `ROOM` bytes in room of their own.
 #[derive(Drop)]
 pub struct Stored<const ROOM: usize> {
     position: Position,
+    kind: u8,
     bytes: ArrayVec<u8, ROOM>,
 }
 
@@ -24,27 +25,29 @@ impl<const ROOM: usize> Model for Stored<ROOM> {
 
     ghost Value = { Item };
 
-    ghost view = { λ s. item_at s.position s.bytes.items };
+    ghost view = { λ s. item_at s.position s.kind s.bytes.items };
 }
 
 impl<const ROOM: usize> Stored<ROOM> {
-    /// An item of these bytes under a position.
-    pub fn new(position: Position, bytes: &[u8]) -> Self
+    /// An item of these bytes, of a kind, under a position.
+    pub fn new(position: Position, kind: u8, bytes: &[u8]) -> Self
         requires { length bytes.now ≤ ROOM }
-        ensures { result ≡ item_at position bytes.now }
+        ensures { result ≡ item_at position kind bytes.now }
     {
         Stored {
             position,
+            kind,
             bytes: in_room(bytes),
         }
     }
 
-    /// Becomes the item of these bytes under a position, in its room.
-    fn refill(&mut self, position: Position, bytes: &[u8])
+    /// Becomes the item of these bytes, of a kind, under a position, in its room.
+    fn refill(&mut self, position: Position, kind: u8, bytes: &[u8])
         requires { length bytes.now ≤ ROOM }
-        ensures { self.new ≡ item_at position bytes.now }
+        ensures { self.new ≡ item_at position kind bytes.now }
     {
         self.position = position;
+        self.kind = kind;
         self.bytes.clear();
         let _whole = self.bytes.try_extend_from_slice(bytes);
     }
@@ -54,6 +57,13 @@ impl<const ROOM: usize> Stored<ROOM> {
         ensures { result ≡ self.now.position }
     {
         self.position
+    }
+
+    /// The kind of the item.
+    pub fn kind(&self) -> u8
+        ensures { result ≡ self.now.kind }
+    {
+        self.kind
     }
 
     /// The bytes of the item.
@@ -93,24 +103,26 @@ impl<const LIMIT: usize, const ROOM: usize> Model for Row<LIMIT, ROOM> {
     ghost invariant = { λ r. AreRooms LIMIT ROOM r.rooms.items r.held r.order.items };
 }
 
-/// Makes one more room, the last in the order, with the item of these bytes under a position.
+/// Makes one more room, the last in the order, with the item of these bytes, of a kind, under a
+/// position.
 #[inline(never)]
 fn add_room<const ROOM: usize>(
     rooms: &mut Vec<Stored<ROOM>>,
     order: &mut Vec<usize>,
     position: Position,
+    kind: u8,
     bytes: &[u8],
 )
     requires fits { length bytes.now ≤ ROOM }
     requires room { length rooms.old.items < vec_capacity rooms.old }
     requires place { length order.old.items < vec_capacity order.old }
-    ensures rooms { rooms.new.items ≡ rooms.old.items ++ item_at position bytes.now ∷ [] }
+    ensures rooms { rooms.new.items ≡ rooms.old.items ++ item_at position kind bytes.now ∷ [] }
     ensures order { order.new.items ≡ order.old.items ++ length rooms.old.items ∷ [] }
     ensures rooms_kept { vec_capacity rooms.old ≤ vec_capacity rooms.new }
     ensures order_kept { vec_capacity order.old ≤ vec_capacity order.new }
 {
     order.push(rooms.len()).unwrap();
-    rooms.push(Stored::new(position, bytes)).unwrap();
+    rooms.push(Stored::new(position, kind, bytes)).unwrap();
 }
 
 /// Moves the first `n` numbers of an order behind the others of those that are held.
@@ -144,21 +156,21 @@ impl<const LIMIT: usize, const ROOM: usize> Row<LIMIT, ROOM> {
         self.held
     }
 
-    /// Appends an item of these bytes under a position. A full row stays as it was.
-    pub fn push(&mut self, position: Position, bytes: &[u8]) -> Result<(), Full>
+    /// Appends an item of these bytes, of a kind, under a position. A full row stays as it was.
+    pub fn push(&mut self, position: Position, kind: u8, bytes: &[u8]) -> Result<(), Full>
         requires { length bytes.now ≤ ROOM }
-        ensures { Pushes LIMIT self.old self.new (item_at position bytes.now) result }
+        ensures { Pushes LIMIT self.old self.new (item_at position kind bytes.now) result }
     {
         if self.held >= LIMIT {
             return Err(Full);
         }
         if self.held == self.rooms.len() {
-            add_room(&mut self.rooms, &mut self.order, position, bytes);
+            add_room(&mut self.rooms, &mut self.order, position, kind, bytes);
             self.held += 1;
             return Ok(());
         }
         let number = self.order[self.held];
-        self.rooms[number].refill(position, bytes);
+        self.rooms[number].refill(position, kind, bytes);
         self.held += 1;
         Ok(())
     }

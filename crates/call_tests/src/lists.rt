@@ -1,6 +1,6 @@
 //! Each box made with ample memory, and each of its calls once.
 
-use boxes::{Entry, Fewer, Inbox, Outbox};
+use boxes::{Fewer, Inbox, Outbox, TEXT_KIND};
 use dr_base::Position;
 use std::test::Fail;
 
@@ -10,15 +10,15 @@ fn place(index: u32) -> Position {
 
 fn shown(inbox: &Inbox, at: usize) -> Option<(Position, &[u8])> {
     match inbox.at(at) {
-        Some(Entry { position, text }) => Some((position, text)),
-        None => None,
+        Some(entry) if entry.kind == TEXT_KIND => Some((entry.position, entry.text)),
+        _ => None,
     }
 }
 
 /// Whether an inbox without texts keeps three in order, and drops the oldest.
 fn keeps_texts(inbox: &mut Inbox) -> bool {
     for index in 0..3 {
-        if inbox.push(place(index), b"text") != Ok(()) {
+        if inbox.push(place(index), TEXT_KIND, b"text") != Ok(()) {
             return false;
         }
     }

@@ -1,5 +1,5 @@
 -- A text whose waiting a take ends was opened by the other side.
-use Rattle.std.proofs.Common.{List, false, sym, ap, true, ℕ, ◌∙◌, ◌≡◌}
+use Rattle.std.proofs.Common.{List, Ok, Option, Result, Some, false, sym, ap, true, ℕ, ◌∙◌, ◌≡◌}
 use Rattle.dr_base.specs.declared.position.Side.{Side}
 use Rattle.dr_disk.specs.State.{DiskState}
 use Rattle.dr_model.specs.Machines.Acts.{taking}
@@ -17,6 +17,10 @@ use Rattle.client.specs.Receipts.{HaveArrived, waits}
 same_waits : (w : World) (side : Side) (before after : Client) → after ≡ before → HaveArrived w side before after
 same_waits w side before after same p waited over =
     absurd (let e : true ≡ false = sym waited ∙ ap (λ c. waits c p) (sym same) ∙ over in cc)
+
+-- what is read is one client
+pub one_client : (read : Option (Result Client ℕ)) (x y : Client) → read ≡ Some (Ok x) → read ≡ Some (Ok y) → x ≡ y
+one_client read x y is also = let same : Some (Ok x) ≡ Some (Ok y) = sym is ∙ also in cc
 
 pub take_arrives : {S : Type 0} (keeping : Keeping S) (k : Mechanism) (w : World) (side : Side)
     (packet : List ℕ) (old new : S) (start now : DiskState)

@@ -1,9 +1,11 @@
 -- A record that was read, replaced by the same client's in the newest version: what is left is as what was read.
-use Rattle.std.proofs.Common.{List, None, Ok, Option, Some, ap, inl, inr, refl, subst, sym, true, ℕ, ⊎_elim, ◌∙◌, ◌≡◌}
+use Rattle.std.proofs.Common.{Err, List, None, Ok, Option, Some, ap, ap₂, arith, inl, inr, refl, subst, sym, true, ℕ, ⊎_elim, ◌+◌, ◌-◌, ◌<◌, ◌∙◌, ◌≡◌}
 use Rattle.std.specs.Prelude.{is_some, option_map}
 use Rattle.dr_base.specs.Bytes.{AreBytes}
-use Rattle.dr_disk.specs.Spans.{Span}
+use Rattle.dr_disk.specs.Calls.{Unwritten}
+use Rattle.dr_disk.specs.Spans.{HavePassed, Span}
 use Rattle.dr_disk.specs.State.{Always, DiskState}
+use Rattle.dr_disk.specs.declared.call.Call.{Call}
 use Rattle.dr_disk.proofs.Steps.{spans, widen}
 use Rattle.kem_laws.specs.Mechanism.{Mechanism}
 use Rattle.session_model.specs.Clients.{Client}
@@ -15,13 +17,18 @@ use Rattle.slot_store.specs.Kept.{content_or_empty}
 use Rattle.slot_store.specs.Laws.{IsRead}
 use Rattle.slot_store.specs.Reading.{IsEntryOrLike, IsLikeRead, area_reading}
 use Rattle.slot_store.specs.Records.{stored_record}
+use Rattle.slot_store.specs.Stops.{IsStopped, call_after, calls_of}
 use Rattle.slot_store.specs.Store.{IsOldOrNew, KeepsOutsideArea, SlotStore, content}
+use Rattle.slot_store.specs.Areas.{Area}
+use Rattle.slot_store.specs.declared.errors.OpenError.{OpenError}
+use Rattle.slot_store.specs.declared.errors.OpenError.TheVariants.{Damaged as StoreDamaged, Memory as StoreMemory, StoreFault as DiskFault}
 use Rattle.slot_store.specs.declared.opening.Found.{Found}
 use Rattle.slot_store.specs.declared.opening.Found.TheVariants.{Content}
 use Rattle.slot_store.proofs.Outside.{self_outside, twice_outside}
+use Rattle.client.specs.Cells.{IsStoppedInCell, client_cell}
 use Rattle.client.specs.Clients.{client_area}
 use Rattle.client.specs.Grounds.{ReadsWritten}
-use Rattle.client.specs.Opening.{IsAsRead, IsEntryOrAsRead, IsReadNewest, IsSameOrNewest, client_record_fault}
+use Rattle.client.specs.Opening.{IsAsRead, IsEntryOrAsRead, IsMigrationStopped, IsReadNewest, IsSameOrNewest, OpensMigrating, client_record_fault, open_refusal}
 
 pub has_some : (o : Option (List ℕ)) → is_some o ≡ true → (text : List ℕ) × (o ≡ Some text)
 has_some None some = absurd (cc some)
@@ -76,6 +83,7 @@ newest_holds k newest store kept text is bytes some reads test =
 -- What is known of a disk once the record that was read may have been replaced by the same client's in the newest version.
 pub record IsRenewed (k : Mechanism) (held : SlotStore) (kept : Client) (start mid now : DiskState) : Type 0 where
   pub read : (s : List ℕ) → start.seen ≡ Some s → option_map (record_read k) (stored_record client_area s) ≡ Some (Ok kept)
+  pub has : (s text : List ℕ) → start.seen ≡ Some s → stored_record client_area s ≡ Some text → content held ≡ Some text
   pub newest : IsReadNewest start → (s : List ℕ) → start.seen ≡ Some s
       → (text : List ℕ) × (content held ≡ Some text) × (is_newest text ≡ true)
   pub any_moment : Span start now (IsEntryOrAsRead k start)
@@ -114,6 +122,7 @@ module _ (k : Mechanism) (readings : IsRead) (found : Found) (store held : SlotS
   pub renewed : IsRenewed k held kept start mid now
   renewed = record {
     read = read_kept;
+    has = λ s t told stands. ap content same ∙ sym (stored s told) ∙ stands;
     newest = λ newest s told. (text.0, ap content same ∙ text.1, newest s text.0 told (stored s told ∙ text.1));
     any_moment =
         spans start mid now (IsEntryOrAsRead k start) (opening_moments k start mid opening)
@@ -124,3 +133,43 @@ module _ (k : Mechanism) (readings : IsRead) (found : Found) (store held : SlotS
         ⊎_elim (λ was. (c, was, self_outside client_area c))
         (λ (new : IsOldOrNew mid client_area (content held) (Some (record_text kept)) c). new.frame) (renewing.last c at);
   }
+
+-- ---- counted
+
+pub passed_both : (m n : ℕ) (a b c : DiskState) → HavePassed m a b → HavePassed n b c → HavePassed (m + n) a c
+passed_both m n a b c one two = λ last told.
+    let mid = two last told in
+    let first = one mid.0 mid.1 in
+    (first.0, first.1, omega (arith, mid.2, first.2))
+
+module _ (text : List ℕ) (kept : Client) (old : Option (List ℕ)) (made : List ℕ) (has : old ≡ Some text) (written : made ≡ record_text kept)
+    (start now : DiskState) where
+  calls_are : calls_of old (Some made) ≡ calls_of (Some text) (Some (record_text kept))
+  calls_are = ap₂ calls_of has (ap Some written)
+
+  pub migrated_calls : HavePassed (calls_of old (Some made)) start now → HavePassed (calls_of (Some text) (Some (record_text kept))) start now
+  migrated_calls = subst (λ n. HavePassed n start now) calls_are
+
+  to_stopped : IsStopped client_area (Some text) (Some (record_text kept)) start now
+      → IsStoppedInCell client_cell (Some text) (Some (record_text kept)) start now
+  to_stopped s = record { crash = s.crash; read = s.read }
+
+  pub migration_stopped : (area : Area) → area ≡ client_area → (call : Call) → IsStopped area old (Some made) start now
+      → ((l m : ℕ) → start.passed ≡ Some l → now.passed ≡ Some m → m < l + calls_of old (Some made))
+      → ((l m : ℕ) → start.passed ≡ Some l → now.passed ≡ Some m → call ≡ call_after old (Some made) (m - l))
+      → IsMigrationStopped text kept call start now
+  migration_stopped area is call stopped few came = record {
+    stopped = to_stopped
+        (subst (λ (a : Area). IsStopped a (Some text) (Some (record_text kept)) start now) is
+        (subst (λ o. IsStopped area o (Some (record_text kept)) start now) has
+        (subst (λ t. IsStopped area old (Some t) start now) written stopped)));
+    few = λ l m was later. subst (λ n. m < l + n) calls_are (few l m was later);
+    kind = λ l m was later. came l m was later ∙ ap₂ (λ o t. call_after o t (m - l)) has (ap Some written);
+  }
+
+-- a store that wasn't opened wrote nothing
+pub migrates_unopened : {X : Type 0} (state : X → DiskState) (k : Mechanism) (text : List ℕ) (start now : X) (error : OpenError)
+    → Unwritten (state start) (state now) → OpensMigrating state k text start now (Err (open_refusal error))
+migrates_unopened state k found start now StoreMemory unwritten = tt
+migrates_unopened state k found start now (DiskFault call) unwritten = inl unwritten
+migrates_unopened state k found start now (StoreDamaged slot at) unwritten = tt

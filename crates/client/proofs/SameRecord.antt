@@ -3,7 +3,7 @@ use Rattle.std.proofs.Common.{List, [], refl, ap, ap₂, subst, sym, ℕ, ◌++�
 use Rattle.std.specs.Int.{to_be_bytes, w8}
 use Rattle.std.specs.Prelude.{length}
 use Rattle.std.proofs.lemmas.List.{length-append}
-use Rattle.boxes.specs.Entries.{Entry, entry_under}
+use Rattle.boxes.specs.Entries.{Entry, entry_with}
 use Rattle.boxes.specs.Posts.{Post, post_under}
 use Rattle.dr_base.specs.declared.position.Position.{Position}
 use Rattle.grammar.specs.Printer.{HasRoom, print_counted, print_items}
@@ -54,12 +54,14 @@ drafted_record k kept draft state packet next is =
     ∙ ap (λ s. record_text (client_of s kept.inbox (kept.outbox ++ draft.post ∷ []))) next
 
 -- of a packet that was taken
-pub received_record : (kept : Client) (draft : Received) (state : State) (p : Position) (text : List ℕ)
-    → state ≡ (received_of kept.state draft).next → p ≡ draft.position → text ≡ draft.text
-    → record_text (client_of state (kept.inbox ++ entry_under p text ∷ []) kept.outbox) ≡ record_text (received_client kept draft)
-received_record kept draft state p text next place same =
-    ap (λ s. record_text (client_of s (kept.inbox ++ entry_under p text ∷ []) kept.outbox)) next
-    ∙ ap₂ (λ a t. record_text (client_of (received_of kept.state draft).next (kept.inbox ++ entry_under a t ∷ []) kept.outbox)) place same
+pub received_record : (kept : Client) (draft : Received) (state : State) (p : Position) (kind : ℕ) (text : List ℕ)
+    → state ≡ (received_of kept.state draft).next → p ≡ draft.position → kind ≡ draft.kind → text ≡ draft.text
+    → record_text (client_of state (kept.inbox ++ entry_with p kind text ∷ []) kept.outbox) ≡ record_text (received_client kept draft)
+received_record kept draft state p kind text next place alike same =
+    let written : Position → ℕ → List ℕ → List ℕ = λ a n t.
+    record_text (client_of (received_of kept.state draft).next (kept.inbox ++ entry_with a n t ∷ []) kept.outbox) in
+    ap (λ s. record_text (client_of s (kept.inbox ++ entry_with p kind text ∷ []) kept.outbox)) next
+    ∙ ap₂ (λ a n. written a n text) place alike ∙ ap (written draft.position draft.kind) same
 
 -- what is written from a client is written from one that equals it
 pub written_alike : (k : Mechanism) (a b next : Client) (state : State) (change : Change) → b ≡ a

@@ -19,3 +19,5 @@ pub mod Arrivals
 pub mod GoingOver
 pub mod Steps
 pub mod Covered
+pub mod Tallies
+pub mod InOrder

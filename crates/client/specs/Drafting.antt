@@ -1,6 +1,6 @@
 -- What is drafted of what a client keeps, before it is accepted.
 use Rattle.std.specs.Prelude.{Err, List, None, Ok, Option, Result, Some, [], length, ℕ, ◌++◌, ◌<◌, ◌≤◌, ◌∷◌, ◌≡◌}
-use Rattle.boxes.specs.Entries.{entry_under}
+use Rattle.boxes.specs.Entries.{entry_with}
 use Rattle.boxes.specs.declared.errors.Fewer.{Fewer as TooFew}
 use Rattle.dr_base.specs.declared.limits.TheConstants.{INBOX_LIMIT, OUTBOX_LIMIT}
 use Rattle.dr_model.specs.Machines.Acts.{dropped_client, standing_with}
@@ -48,7 +48,7 @@ said_if s (Err e) = None
 abbrev pub received_client : Client → Received → Client
 received_client kept draft = record kept {
   state = (received_of kept.state draft).next;
-  inbox = kept.inbox ++ entry_under draft.position draft.text ∷ [];
+  inbox = kept.inbox ++ entry_with draft.position draft.kind draft.text ∷ [];
 }
 
 -- a draft of this session, which has room for it and is lawful after it

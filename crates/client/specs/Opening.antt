@@ -1,10 +1,11 @@
 -- What opening a client, or beginning one, does.
-use Rattle.std.specs.Prelude.{Err, IfOk, List, None, Ok, Option, Result, Some, option_map, true, ℕ, ⊤, ◌≡◌, ◌⊎◌}
+use Rattle.std.specs.Prelude.{Err, IfOk, List, None, Ok, Option, Result, Some, option_map, true, ℕ, ⊤, ◌+◌, ◌-◌, ◌<◌, ◌≡◌, ◌⊎◌}
 use Rattle.dr_base.specs.Causes.{Rose}
 use Rattle.dr_base.specs.declared.position.Side.{Side}
 use Rattle.dr_disk.specs.Calls.{Unwritten}
 use Rattle.dr_disk.specs.Spans.{HavePassed, IsQuiet, Span}
 use Rattle.dr_disk.specs.State.{Always, DiskState, IsSettled}
+use Rattle.dr_disk.specs.declared.call.Call.{Call}
 use Rattle.dr_model.specs.Machines.Worlds.{World}
 use Rattle.kem_laws.specs.Mechanism.{Mechanism}
 use Rattle.session_model.specs.Clients.{Client}
@@ -13,10 +14,11 @@ use Rattle.session_record.specs.Record.{record_read, record_text}
 use Rattle.session_record.specs.Versions.{is_newest}
 use Rattle.slot_store.specs.Reading.{AreaReading, damaged, no_content, area_reading}
 use Rattle.slot_store.specs.Records.{stored_record}
+use Rattle.slot_store.specs.Stops.{call_after, calls_of}
 use Rattle.slot_store.specs.Store.{Rests, SlotStore, content}
 use Rattle.slot_store.specs.declared.errors.OpenError.{OpenError}
 use Rattle.slot_store.specs.declared.errors.OpenError.TheVariants.{Damaged as StoreDamaged, Memory as StoreMemory, StoreFault as DiskFault}
-use Rattle.client.specs.Cells.{Cell, client_cell}
+use Rattle.client.specs.Cells.{Cell, IsStoppedInCell, client_cell}
 use Rattle.client.specs.Clients.{ClientNow, IsReady, client_area}
 use Rattle.client.specs.InWorlds.{CellStandsFor, IsIn, StandsFor}
 use Rattle.client.specs.declared.refusals.OpenRefusal.{OpenRefusal}
@@ -149,6 +151,39 @@ HasOneSync start now _ = HavePassed 1 start now
 pub record IsLeftAtRest (start now : DiskState) (result : Result ClientNow OpenRefusal) : Type 0 where
   pub unwritten : Unwritten start now
   pub one_sync : HasOneSync start now result
+
+-- ---- a record in an earlier version
+
+-- The same client's record in the newest version was to replace this one, and a call failed, of
+-- this kind: by how many writes and syncs passed, which of the two each crash leaves, and a read
+-- gives. The call that failed is the one that came next.
+pub record IsMigrationStopped (text : List ℕ) (kept : Client) (call : Call) (start now : DiskState) : Type 0 where
+  pub stopped : IsStoppedInCell client_cell (Some text) (Some (record_text kept)) start now
+  pub few : (l m : ℕ) → start.passed ≡ Some l → now.passed ≡ Some m
+      → m < l + calls_of (Some text) (Some (record_text kept))
+  pub kind : (l m : ℕ) → start.passed ≡ Some l → now.passed ≡ Some m
+      → call ≡ call_after (Some text) (Some (record_text kept)) (m - l)
+
+-- it replaced it, by just the writes and syncs that this takes
+abbrev pub IsMigrated : List ℕ → Client → DiskState → DiskState → Result Unit Call → Type 0
+IsMigrated text kept start now (Ok u) =
+    HavePassed (calls_of (Some text) (Some (record_text kept))) start now
+IsMigrated text kept start now (Err call) = IsMigrationStopped text kept call start now
+
+-- What an opening does where the client's area was read at rest for this record, which is in an
+-- earlier version: one sync, and what replaces it. Where a call fails, no byte was written, or it
+-- is known which of the two stands.
+abbrev pub OpensMigrating : {X : Type 0} → (X → DiskState) → Mechanism → List ℕ → X → X
+    → Result ClientNow OpenRefusal → Type 0
+OpensMigrating state k text start now (Ok client) =
+    HavePassed (1 + calls_of (Some text) (Some (record_text client.kept))) (state start) (state now)
+OpensMigrating {X = X} state k text start now (Err (StoreFault call)) =
+    Unwritten (state start) (state now)
+    ⊎ ((mid : X) × (kept : Client) × (record_read k text ≡ Ok kept)
+    × HavePassed 1 (state start) (state mid) × IsMigrationStopped text kept call (state mid) (state now))
+OpensMigrating state k text start now (Err _) = ⊤
+
+-- ---- in worlds
 
 -- Opening a client in the world that a read stands for: the client keeps a side of it, and each image stands for it.
 -- Meanwhile, and in each ending, a crash leaves what one might have left at entry, or what stands for it, and a read gives

@@ -4,6 +4,7 @@ pub mod Moments
 pub mod Rounds
 pub mod SoFar
 pub mod Syncs
+pub mod InOrder
 pub mod InWorlds
 pub mod Transfers
 pub mod Arrivals

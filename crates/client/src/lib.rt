@@ -28,22 +28,26 @@
 #![tactic(auto)]
 
 pub use begin::Begin;
-pub use client::{AREA_SIZE, Client, limits_in_numbers};
+pub use client::{AREA_SIZE, Client};
 pub use cores::{Core, Draft};
 pub use dropping::drop_items;
-pub use histories::{exchange, meanwhile, syncs_are_links};
 pub use keepers::Keeper;
-pub use laws::{
-    areas_are_their_records, client_grounds, crash_safety, opens_again, single_use,
-    stays_undamaged, used_keys_stay_erased,
-};
 pub use looking::look;
 pub use refusals::{
     BeginRefusal, CoreBeginError, DropRefusal, OpenRefusal, SayRefusal, TakeRefusal,
 };
 pub use saying::say;
-pub use syncing::{Names, SyncFault, SyncRefusal, goes_over};
+pub use syncing::{Names, SyncFault, SyncRefusal};
 pub use taking::take;
+
+// Laws: functions without code.
+pub use client::limits_in_numbers;
+pub use histories::{exchange, meanwhile, syncs_are_links};
+pub use laws::{
+    areas_are_their_records, client_grounds, crash_safety, opens_again, single_use,
+    stays_undamaged, used_keys_stay_erased,
+};
+pub use syncing::{goes_over, sent_behind_the_disk};
 
 mod begin;
 mod beginning;
@@ -61,3 +65,4 @@ mod room;
 mod saying;
 mod syncing;
 mod taking;
+mod wording;

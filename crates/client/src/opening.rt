@@ -1,6 +1,6 @@
 //! A client is opened from its disk.
 
-ghost use Rattle.std.specs.Prelude.{◌≡◌, ◌≢◌, ℕ, List, [], None, Some, Ok, IfOk, IfErr, IsOk, OnOk, is_some, true};
+ghost use Rattle.std.specs.Prelude.{◌≡◌, ◌≢◌, ℕ, List, [], None, Some, Ok, IfOk, IfErr, IsOk, OnOk, false, is_some, true};
 ghost use Rattle.dr_base.specs.Bytes.{AreBytes};
 ghost use Rattle.dr_base.specs.Causes.{Rose};
 ghost use Rattle.dr_base.specs.declared.position.Side.{Side};
@@ -12,9 +12,10 @@ ghost use Rattle.session_record.specs.Lawful.{IsLawfulClient};
 ghost use Rattle.session_record.specs.Record.{record_read, record_text};
 ghost use Rattle.session_record.specs.Versions.{is_newest};
 ghost use Rattle.slot_store.specs.AtRest.{IsReadAtRest};
+ghost use Rattle.slot_store.specs.Records.{stored_record};
 ghost use Rattle.slot_store.specs.Store.{HasArea, IsOldOrNew, Rests, content};
 ghost use Rattle.client.specs.Clients.{IsReady, client_area};
-ghost use Rattle.client.specs.Opening.{IsAsRead, IsEntryOrAsRead, IsLeftAtRest, IsReadNewest, IsClientOpened, IsUnopened, OpensIn, ReadsAsSide, open_refusal};
+ghost use Rattle.client.specs.Opening.{IsAsRead, IsEntryOrAsRead, IsLeftAtRest, IsMigrated, IsReadNewest, IsClientOpened, IsUnopened, OpensIn, OpensMigrating, ReadsAsSide, open_refusal};
 ghost use Rattle.client.specs.Reading.{HasReadClient};
 
 use crate::client::{AREA, Client};
@@ -89,6 +90,9 @@ impl<K: Kem> Client<K> {
             (Some (record_text self.old.kept))) }
         ensures still { (text : List ℕ) → content self.old.store ≡ Some text
             → is_newest text ≡ true → disk.new ≡ disk.old }
+        ensures migrated { (text : List ℕ) → content self.old.store ≡ Some text
+            → is_newest text ≡ false
+            → IsMigrated text self.old.kept (D.state disk.old) (D.state disk.new) result }
         ensures fate { (D.state disk.old).fate ≡ Fate.all_pass → IsOk result
             × ((D.state disk.new).fate ≡ Fate.all_pass) }
         ensures quiet { OnOk result (IsQuiet (D.state disk.old) (D.state disk.new)) }
@@ -130,6 +134,11 @@ impl<K: Kem> Client<K> {
         ensures still { IsReadAtRest client_area (D.state disk.old)
             → IsReadNewest (D.state disk.old)
             → IsLeftAtRest (D.state disk.old) (D.state disk.new) result }
+        // Where all was read at rest, for a record in an earlier version, just what replaces it is.
+        ensures migrates { IsReadAtRest client_area (D.state disk.old) → (s text : List ℕ)
+            → (D.state disk.old).seen ≡ Some s → stored_record client_area s ≡ Some text
+            → is_newest text ≡ false
+            → OpensMigrating D.state K.mechanism text disk.old disk.new result }
         // In each world that a read stands for.
         ensures in_worlds { (w : World) (side : Side) → IsLawfulWorld K.mechanism w
             → ReadsAsSide K.mechanism w side (D.state disk.old)

@@ -1,5 +1,6 @@
 //! Why a call on a client changed nothing, or closed it.
 
+use crate::wording::InWords;
 use dr_base::Key32;
 use dr_disk::Call;
 use session_model::Refusal;
@@ -10,10 +11,10 @@ use thiserror::Error;
 #[derive(Drop, Error)]
 pub enum SayRefusal {
     /// A call on the disk failed before, of this kind: the client has to be opened again.
-    #[error("the client is closed")]
+    #[error("the client is closed, since a call on the disk failed before: {call:?}")]
     Closed { call: Call },
     /// The side says no such text now.
-    #[error("the text is refused")]
+    #[error("the text is refused: {}", InWords(*.0))]
     Refused(Refusal),
     /// No seed could be drawn.
     #[error("no seed could be drawn")]
@@ -22,7 +23,7 @@ pub enum SayRefusal {
     #[error("the seed gives no pair of keys")]
     NoPair { seed: Key32 },
     /// A call on the disk failed, of this kind: the client is closed.
-    #[error("a call on the disk failed")]
+    #[error("a call on the disk failed: {call:?}")]
     StoreFault { call: Call },
 }
 
@@ -37,13 +38,13 @@ impl fmt::Debug for SayRefusal {
 #[derive(Clone, Copy, Debug, PartialEq, Eq, Error)]
 pub enum TakeRefusal {
     /// A call on the disk failed before, of this kind: the client has to be opened again.
-    #[error("the client is closed")]
+    #[error("the client is closed, since a call on the disk failed before: {call:?}")]
     Closed { call: Call },
     /// The packet doesn't open, or the inbox is full.
-    #[error("the packet is refused")]
+    #[error("the packet is refused: {}", InWords(*.0))]
     Refused(Refusal),
     /// A call on the disk failed, of this kind: the client is closed.
-    #[error("a call on the disk failed")]
+    #[error("a call on the disk failed: {call:?}")]
     StoreFault { call: Call },
 }
 
@@ -51,13 +52,13 @@ pub enum TakeRefusal {
 #[derive(Clone, Copy, Debug, Error)]
 pub enum DropRefusal {
     /// A call on the disk failed before, of this kind: the client has to be opened again.
-    #[error("the client is closed")]
+    #[error("the client is closed, since a call on the disk failed before: {call:?}")]
     Closed { call: Call },
     /// Only this many stand.
     #[error("only {held} stand")]
     Fewer { held: u32 },
     /// A call on the disk failed, of this kind: the client is closed.
-    #[error("a call on the disk failed")]
+    #[error("a call on the disk failed: {call:?}")]
     StoreFault { call: Call },
 }
 
@@ -68,7 +69,7 @@ pub enum OpenRefusal {
     #[error("out of memory")]
     Memory,
     /// A call on the disk failed, of this kind.
-    #[error("a call on the disk failed")]
+    #[error("a call on the disk failed: {call:?}")]
     StoreFault { call: Call },
     /// What was read is no client's: the table, 0 or 1, and the first place in it that no record's
     /// table has, or 4,096 and the first place in the record's pages.
@@ -86,7 +87,7 @@ pub enum BeginRefusal {
     #[error("out of memory")]
     Memory,
     /// A call on the disk failed, of this kind.
-    #[error("a call on the disk failed")]
+    #[error("a call on the disk failed: {call:?}")]
     StoreFault { call: Call },
     /// What was read is no client's: the table, 0 or 1, and the first place in it that no record's
     /// table has, or 4,096 and the first place in the record's pages.

@@ -1,7 +1,7 @@
 //! A sync of a client with a relay.
 
 pub use faults::{SyncFault, SyncRefusal};
-pub use laws::goes_over;
+pub use laws::{goes_over, sent_behind_the_disk};
 pub use naming::Names;
 
 mod collecting;

@@ -2,11 +2,12 @@
 
 use bodies::Format;
 use client::AREA_SIZE;
+use command_lines::Listing;
 use dr_base::{Key32, Side};
 use dr_disk::{Disk, MemoryDisk};
 use dr_ports::{MemoryDraws, MemorySink, MemorySource};
 use kem_laws::OpenKem;
-use session_commands::{awaiting, begin, check, drop_items, inbox, outbox, say, state, take};
+use session_commands::{begin, check, drop_items, say, show, take};
 use session_model::Items;
 use std::alloc::{AllocError, Global};
 use std::test::Fail;
@@ -61,10 +62,10 @@ fn status_of(
         Command::Say(text) => say::<OpenKem, _, _, _>(alloc, text, disk, out, &mut draws),
         Command::Done(n) => drop_items::<OpenKem, _, _>(alloc, Items::Texts, n, disk, out),
         Command::Sent(n) => drop_items::<OpenKem, _, _>(alloc, Items::Packets, n, disk, out),
-        Command::Inbox => inbox::<OpenKem, _, _>(alloc, disk, out),
-        Command::Outbox => outbox::<OpenKem, _, _>(alloc, disk, out),
-        Command::Awaiting => awaiting::<OpenKem, _, _>(alloc, disk, out),
-        Command::State => state::<OpenKem, _, _>(alloc, disk, out),
+        Command::Inbox => show::<OpenKem, _, _>(alloc, Listing::Inbox, disk, out),
+        Command::Outbox => show::<OpenKem, _, _>(alloc, Listing::Outbox, disk, out),
+        Command::Awaiting => show::<OpenKem, _, _>(alloc, Listing::Awaiting, disk, out),
+        Command::State => show::<OpenKem, _, _>(alloc, Listing::State, disk, out),
         Command::Check => check::<OpenKem, _, _>(alloc, disk, out),
     };
     Ok(status.code)

@@ -3,11 +3,11 @@ use Rattle.std.proofs.Common.{◌≡◌, ◌∙◌, ◌≤◌, ◌<◌, ◌-◌,
 use Rattle.std.specs.Prelude.{Box, unwrap_or}
 use Rattle.std.specs.Borrow.{Bor}
 use Rattle.std.specs.Box.{box_value}
-use Rattle.std.specs.Option.{option_map, option_to_list}
+use Rattle.std.specs.Option.{option_map}
 use Rattle.std.proofs.lemmas.List.{nil_from_length}
 use Rattle.std.proofs.lemmas.Str.{IsUtf8-string_bytes}
 use Rattle.clap.specs.Kinds.{HasKind}
-use Rattle.clap.specs.Matches.{first_value, found_of, matched_of, raw_values, subcommand_name_of}
+use Rattle.clap.specs.Matches.{found_of, matched_of, raw_values, subcommand_name_of}
 use Rattle.clap.specs.Values.{kind_of}
 use Rattle.clap.specs.Walk.{Row, Text, rows_of, texts}
 use Rattle.clap.specs.Simple.{App, HasMatchesOf, is_simple, subcommand_of, subcommand_rows, subcommand_rows_of}
@@ -18,7 +18,7 @@ use Rattle.clap.specs.declared.parser.matches.ArgMatches.{ArgMatches}
 use Rattle.clap.specs.declared.parser.matches.ArgMatches.TheViews.{out-ArgMatches, out-SubCommand}
 use Rattle.clap.specs.declared.parser.matches.Found.{Found}
 use Rattle.clap.specs.declared.parser.matches.SubCommand.{SubCommand}
-use Rattle.clap.proofs.WalkLemmas.{first_value-rows, raw_values-rows}
+use Rattle.clap.proofs.WalkLemmas.{raw_values-rows}
 use Rattle.command_words.specs.Application.{application}
 use Rattle.command_words.specs.Commands.{Work, command_in, command_named, command_of, rows}
 use Rattle.command_words.specs.Values.{values_found}
@@ -54,17 +54,10 @@ pub are_texts : {Y : Type 0} (words : List (String Y)) → AreTexts (map string_
 are_texts [] = tt
 are_texts (word ∷ words) = (IsUtf8-string_bytes word, are_texts words)
 
--- the values, each found by its name
-pub all_values : (f : Found) (first second : Option Text) (more : Option (List Text)) (none one two three : List Text) → none ≡ [] → one ≡ none ++ option_to_list first
-    → two ≡ one ++ option_to_list second → three ≡ two ++ unwrap_or more [] → first ≡ first_value f (codes "first") → second ≡ first_value f (codes "second")
-    → more ≡ option_map raw_values (matched_of f (codes "more")) → three ≡ values_found (rows_of f)
-all_values f first second more none one two three empty first_put second_put more_put a b c =
-    let first_is = a ∙ first_value-rows f (codes "first") in
-    let second_is = b ∙ first_value-rows f (codes "second") in
-    let more_is = c ∙ raw_values-rows f (codes "more") in
-    let one_is = first_put ∙ ap₂ (λ xs o. xs ++ option_to_list o) empty first_is in
-    let two_is = second_put ∙ ap₂ (λ xs o. xs ++ option_to_list o) one_is second_is in
-    more_put ∙ ap₂ (λ xs o. xs ++ unwrap_or o []) two_is more_is
+-- the values, found by their name
+pub all_values : (f : Found) (found : Option (List Text)) (none all : List Text) → none ≡ [] → all ≡ none ++ unwrap_or found []
+    → found ≡ option_map raw_values (matched_of f (codes "values")) → all ≡ values_found (rows_of f)
+all_values f found none all empty put is = put ∙ ap₂ (λ xs o. xs ++ unwrap_or o []) empty (is ∙ raw_values-rows f (codes "values"))
 
 -- no value, one, and two
 pub none_given : (xs : List (Bor Text)) → length xs < 1 → texts xs ≡ []

@@ -35,12 +35,12 @@ either_way (x ∷ xs) (y ∷ ys) = ap₂ ◌&&◌ (same x y) (either_way xs ys)
     same : (m n : ℕ) → (m == n) ≡ (n == m)
     same m n = grind (arith, nat_tests)
 
-answers : (row : Row) (word : Text) → answers_to word (label_of (built_row row)) ≡ bytes_eq word row.0
-answers row word = or_false (bytes_eq row.0 word) ∙ either_way row.0 word
+answers : (row : Row) (word : Text) → answers_to word (label_of (built_row row)) ≡ bytes_eq word row.name
+answers row word = or_false (bytes_eq row.name word) ∙ either_way row.name word
 
 shape_found : (table : List Row) (word : Text) → find (λ s. answers_to word (label_of s)) (map built_row table) ≡ option_map built_row (row_of table word)
 shape_found [] word = refl
-shape_found (row ∷ rest) word = rw (answers row word) (go (bytes_eq word row.0) (shape_found rest word))
+shape_found (row ∷ rest) word = rw (answers row word) (go (bytes_eq word row.name) (shape_found rest word))
   where
     go : (b : Bool) → find (λ s. answers_to word (label_of s)) (map built_row rest) ≡ option_map built_row (row_of rest word)
         → cond b (Some (built_row row)) (find (λ s. answers_to word (label_of s)) (map built_row rest)) ≡ option_map built_row (cond b (Some row) (row_of rest word))
@@ -50,25 +50,25 @@ shape_found (row ∷ rest) word = rw (answers row word) (go (bytes_eq word row.0
 abbrev names_in : List Row → Names
 names_in table = map label_of (map built_row table)
 
-name_found : (table : List Row) (word : Text) → subcommand_met (names_in table) idle word ≡ option_map (λ row. row.0) (row_of table word)
+name_found : (table : List Row) (word : Text) → subcommand_met (names_in table) idle word ≡ option_map (λ row. row.name) (row_of table word)
 name_found [] word = refl
-name_found (row ∷ rest) word = rw (answers row word) (go (bytes_eq word row.0) (name_found rest word))
+name_found (row ∷ rest) word = rw (answers row word) (go (bytes_eq word row.name) (name_found rest word))
   where
-    go : (b : Bool) → subcommand_met (names_in rest) idle word ≡ option_map (λ r. r.0) (row_of rest word)
+    go : (b : Bool) → subcommand_met (names_in rest) idle word ≡ option_map (λ (r : Row). r.name) (row_of rest word)
         → option_map (λ (s : Text × List Text). s.0) (cond b (Some (label_of (built_row row))) (find (answers_to word) (names_in rest)))
-        ≡ option_map (λ (r : Row). r.0) (cond b (Some row) (row_of rest word))
+        ≡ option_map (λ (r : Row). r.name) (cond b (Some row) (row_of rest word))
     go true e = refl
     go false e = e
 
 -- the row of a name has that name
-pub row_name : (table : List Row) (word : Text) (row : Row) → row_of table word ≡ Some row → row.0 ≡ word
+pub row_name : (table : List Row) (word : Text) (row : Row) → row_of table word ≡ Some row → row.name ≡ word
 row_name [] word row e = cc
-row_name (first ∷ rest) word row e = go (bytes_eq word first.0) refl (row_name rest word row) e
+row_name (first ∷ rest) word row e = go (bytes_eq word first.name) refl (row_name rest word row) e
   where
-    go : (b : Bool) → bytes_eq word first.0 ≡ b → (row_of rest word ≡ Some row → row.0 ≡ word) → cond b (Some first) (row_of rest word) ≡ Some row → row.0 ≡ word
+    go : (b : Bool) → bytes_eq word first.name ≡ b → (row_of rest word ≡ Some row → row.name ≡ word) → cond b (Some first) (row_of rest word) ≡ Some row → row.name ≡ word
     go true is later e =
         let same : first ≡ row = cc in
-        ap (λ (r : Row). r.0) (sym same) ∙ sym ((bytes_eq-Decides word first.0).0 is)
+        ap (λ (r : Row). r.name) (sym same) ∙ sym ((bytes_eq-Decides word first.name).0 is)
     go false is later e = later e
 
 -- ---- the application as clap builds it
@@ -90,7 +90,7 @@ subcommand_from a words = entered a (stop_after a.top.rules (names_of a) (argume
 
 module _ (table : List Row) (word : Text) (row : Row) (found : row_of table word ≡ Some row) (behind : List Text) where
   met : subcommand_met (names_in table) idle word ≡ Some word
-  met = name_found table word ∙ ap (option_map (λ (r : Row). r.0)) found ∙ ap (λ name. Some name) (row_name table word row found)
+  met = name_found table word ∙ ap (option_map (λ (r : Row). r.name)) found ∙ ap (λ name. Some name) (row_name table word row found)
 
   entering : walked [] (names_in table) (walk_of start false) word ≡ record (walk_of start false) { stopped = Some (word, []) }
   unfolding clap_on_literals
@@ -152,7 +152,7 @@ no_positional = record { by_index = refl; by_long = λ name. refl; by_short = λ
 
 module _ (table : List Row) (word : Text) (none : row_of table word ≡ None) where
   unmet : subcommand_met (names_in table) idle word ≡ None
-  unmet = name_found table word ∙ ap (option_map (λ (r : Row). r.0)) none
+  unmet = name_found table word ∙ ap (option_map (λ (r : Row). r.name)) none
 
   -- the first word is refused, or is the separator and stands alone
   refused : (behind : List Text) → is_separator word ≡ false → walk_fault built_top (names_in table) (walk_of start false) (word ∷ behind) ≡ [] → ⊥

@@ -5,7 +5,7 @@ use Rattle.clap.specs.Walk.{Row as Found, Text}
 use Rattle.clap.specs.Simple.{subcommand_of}
 use Rattle.clap.specs.Faults.{fault_of}
 use Rattle.command_words.specs.Application.{application}
-use Rattle.command_words.specs.Commands.{Row, Work, command_in, command_named, row_of, values_read}
+use Rattle.command_words.specs.Commands.{Row, Work, command_in, command_named, row_of}
 use Rattle.command_words.specs.Values.{values_found, values_of}
 use Rattle.command_words.proofs.Leaves.{leaf_holds, leaf_passes}
 use Rattle.command_words.proofs.Levels.{AreTexts}
@@ -28,7 +28,7 @@ taken table (word ∷ behind) texts e = go (row_of table word) refl
     go None none = ap (command_entered table) (unnamed_entered table word none behind e) ∙ sym (no_command table word (values_of behind) none)
     go (Some row) is =
         let rows = named_rows table word row is behind in
-        let values = leaf_holds row.0 row.1 behind texts.1 (sym (named_fault table word row is behind) ∙ e) in
+        let values = leaf_holds row.name behind texts.1 (sym (named_fault table word row is behind) ∙ e) in
         ap (command_entered table) rows ∙ sym (ap (option_and_then (command_named table word)) values)
 
 -- where the words are a command, the parse passes
@@ -44,4 +44,4 @@ passes table (word ∷ behind) work texts e = go (row_of table word) refl (value
     go (Some row) is None v e = cc
     go (Some row) is (Some values) v e =
         named_fault table word row is behind
-        ∙ leaf_passes row.0 row.1 behind texts.1 values work v (sym (ap (option_and_then (λ r. values_read r.1 values)) is) ∙ e)
+        ∙ leaf_passes row.name behind texts.1 values v

@@ -1,9 +1,8 @@
 -- The words after a command's name, as its values.
 use Rattle.std.specs.Prelude.{◌==◌, ◌++◌, ℕ, Bool, false, List, [], ◌∷◌, Option, Some, None, codes, unwrap_or, if◌then◌else◌}
 use Rattle.std.specs.List.{list_any, before_first, after_first}
-use Rattle.std.specs.Option.{option_to_list}
 use Rattle.std.specs.Str.{bytes_eq}
-use Rattle.clap.specs.Walk.{Row, all_of, first_of}
+use Rattle.clap.specs.Walk.{Row, all_of}
 
 abbrev pub is_separator : List ℕ → Bool
 is_separator word = bytes_eq word (codes "--")
@@ -20,6 +19,6 @@ values_of words =
     if list_any is_flag (before_first is_separator words) then None
     else Some (before_first is_separator words ++ after_first is_separator words)
 
--- the values that clap found, by the names that the application gives them
+-- the values that clap found, by the one name that the application gives them
 abbrev pub values_found : List Row → List (List ℕ)
-values_found rows = option_to_list (first_of (codes "first") rows) ++ option_to_list (first_of (codes "second") rows) ++ unwrap_or (all_of (codes "more") rows) []
+values_found rows = unwrap_or (all_of (codes "values") rows) []

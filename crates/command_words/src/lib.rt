@@ -22,4 +22,5 @@ mod application;
 mod command;
 mod limits;
 mod named;
+mod reading;
 mod words;

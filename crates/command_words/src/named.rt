@@ -1,90 +1,17 @@
 //! The command of a name and of the values after it.
 
-ghost use Rattle.std.specs.Prelude.{◌≡◌, ◌<◌, ◌^◌, ℕ, List, [], ◌∷◌, IfOk, option_map};
+ghost use Rattle.std.specs.Prelude.{◌≡◌, ℕ, List, [], ◌∷◌, IfOk, option_map};
 ghost use Rattle.clap.specs.Walk.{texts};
 ghost use Rattle.dr_base.specs.declared.limits.TheConstants.{INBOX_LIMIT, OUTBOX_LIMIT};
 ghost use Rattle.command_words.specs.declared.limits.TheConstants.{CONNECTION_LIMIT, PORT_LIMIT, ROUND_LIMIT};
-ghost use Rattle.command_words.specs.Commands.{amount_read, begin_read, command_named, count_read, format_given, made_read, relay_read, rows, side_read};
-ghost use Rattle.command_words.specs.Numbers.{number_read};
+ghost use Rattle.command_words.specs.Commands.{begin_read, command_named, made_read, relay_read, rows};
 ghost use Rattle.command_words.specs.Seen.{work_of};
 
 use crate::command::Command;
-use crate::limits::{CONNECTION_LIMIT, PORT_LIMIT, ROUND_LIMIT};
-use bodies::Format;
-use dr_base::{INBOX_LIMIT, OUTBOX_LIMIT, Side};
+use crate::limits::{CONNECTION_LIMIT, ROUND_LIMIT};
+use crate::reading::{amount_of, count_of, format_of, number_of, port_of, side_of};
+use dr_base::{INBOX_LIMIT, OUTBOX_LIMIT};
 use std::alloc::{AllocError, Global};
-
-/// The side that a word names.
-#[tactic(auto, unfolding(crate::specs::Commands::side_read))]
-fn side_of(word: &str) -> Option<Side>
-    ensures { result ≡ side_read word.now }
-{
-    match word {
-        "first" => Some(Side::First),
-        "second" => Some(Side::Second),
-        _ => None,
-    }
-}
-
-/// The format that a word names, and plain where there is none.
-fn format_of(word: Option<&str>) -> Option<Format>
-    ensures { result ≡ format_given (option_map (λ word. word.now) word.entry) }
-{
-    match word {
-        Some(word) => Format::named(word.as_bytes()),
-        None => Some(Format::Plain),
-    }
-}
-
-/// The number that a word says.
-fn number_of(word: &str) -> Option<u64>
-    ensures { result ≡ number_read word.now }
-{
-    match word.parse::<u64>() {
-        Ok(number) => Some(number),
-        Err(_) => None,
-    }
-}
-
-/// The number of at most `most` that a word says.
-#[tactic(auto, unfolding(crate::specs::Commands::amount_read))]
-fn amount_of(most: usize, word: &str) -> Option<u32>
-    requires { most < 2 ^ 32 }
-    ensures { result ≡ amount_read most word.now }
-{
-    let number = number_of(word)?;
-    if number <= most as u64 {
-        Some(number as u32)
-    } else {
-        None
-    }
-}
-
-/// The number from 1 to `most` that a word says.
-#[tactic(auto, unfolding(crate::specs::Commands::count_read))]
-fn count_of(most: u32, word: &str) -> Option<u32>
-    ensures { result ≡ count_read most word.now }
-{
-    let number = number_of(word)?;
-    if number >= 1 && number <= u64::from(most) {
-        Some(number as u32)
-    } else {
-        None
-    }
-}
-
-/// The port that a word says.
-#[tactic(auto, unfolding(crate::specs::Commands::count_read))]
-fn port_of(word: &str) -> Option<u16>
-    ensures { result ≡ count_read PORT_LIMIT word.now }
-{
-    let number = number_of(word)?;
-    if number >= 1 && number <= u64::from(PORT_LIMIT) {
-        Some(number as u16)
-    } else {
-        None
-    }
-}
 
 /// The beginning that a side's word says, with the word of a format after it or none.
 #[tactic(auto, unfolding(crate::specs::Commands::begin_read))]

@@ -1,6 +1,6 @@
 //! Words as a command.
 
-ghost use Rattle.std.specs.Prelude.{◌≡◌, ◌↔◌, [], ◌++◌, IfOk, OnOk, IsTrue, map, option_map, option_to_list, string_bytes, unwrap_or};
+ghost use Rattle.std.specs.Prelude.{◌≡◌, ◌↔◌, [], ◌++◌, IfOk, OnOk, IsTrue, map, option_map, string_bytes, unwrap_or};
 ghost use Rattle.clap.specs.Matches.{found_of};
 ghost use Rattle.clap.specs.Values.{kind_of};
 ghost use Rattle.clap.specs.Walk.{rows_of, texts};
@@ -25,25 +25,13 @@ fn is_memory(error: &Error) -> bool
     }
 }
 
-/// Puts a value after those that stand, if one was given.
-fn push_one<'a>(values: &mut Vec<&'a str>, value: Option<&'a str>) -> Result<(), AllocError>
-    ensures { OnOk result
-        (texts values.new.items ≡ texts values.old.items ++ option_to_list
-        (option_map (λ word. word.now) value.entry)) }
-{
-    if let Some(word) = value {
-        values.push(word)?;
-    }
-    Ok(())
-}
-
 /// Puts values after those that stand, if some were given.
-fn push_more<'a>(values: &mut Vec<&'a str>, more: Option<&[&'a str]>) -> Result<(), AllocError>
+fn push_all<'a>(values: &mut Vec<&'a str>, found: Option<&[&'a str]>) -> Result<(), AllocError>
     ensures { OnOk result
         (texts values.new.items ≡ texts values.old.items ++ unwrap_or
-        (option_map (λ words. texts words.now) more.entry) []) }
+        (option_map (λ words. texts words.now) found.entry) []) }
 {
-    if let Some(words) = more {
+    if let Some(words) = found {
         values.extend_from_slice(words)?;
     }
     Ok(())
@@ -55,9 +43,7 @@ fn values_given<'a>(alloc: Global, given: &ArgMatches<'a>) -> Result<Vec<&'a str
         (λ values. texts values.items ≡ values_found (rows_of (found_of given.now))) }
 {
     let mut values = Vec::new(alloc);
-    push_one(&mut values, given.get_str("first"))?;
-    push_one(&mut values, given.get_str("second"))?;
-    push_more(&mut values, given.get_strs("more"))?;
+    push_all(&mut values, given.get_strs("values"))?;
     Ok(values)
 }
 

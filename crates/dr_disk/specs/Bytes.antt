@@ -9,6 +9,10 @@ abbrev pub overwritten_told : Option (List ℕ) → ℕ → List ℕ → Option 
 overwritten_told None at bytes = None
 overwritten_told (Some old) at bytes = Some (overwritten old at bytes)
 
+-- zeros from that place on, which may lie past the end
+abbrev pub EndsBy : ℕ → List ℕ → Type 0
+EndsBy end s = (i : ℕ) → end ≤ i → slice_index s i ≡ 0
+
 -- any bytes in a range of n, the same outside
 pub record Torn (at n : ℕ) (old new : List ℕ) : Type 0 where
   pub size : length new ≡ length old

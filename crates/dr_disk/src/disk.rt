@@ -1,9 +1,9 @@
 //! The trait of disks.
 
-ghost use Rattle.std.specs.Prelude.{◌≡◌, ℕ, ◌+◌, ◌≤◌, List, length, slice_range, Option, OnOk, OnErr, true};
+ghost use Rattle.std.specs.Prelude.{◌≡◌, ℕ, ◌+◌, ◌≤◌, List, length, slice_range, Option, IfOk, OnOk, OnErr, true};
 ghost use Rattle.dr_disk.specs.declared.call.Call.TheVariants.{Read, Write, Sync};
-ghost use Rattle.dr_disk.specs.Bytes.{overwritten_told};
-ghost use Rattle.dr_disk.specs.State.{DiskState, IsLawful, IsSettled};
+ghost use Rattle.dr_disk.specs.Bytes.{EndsBy, overwritten_told};
+ghost use Rattle.dr_disk.specs.State.{DiskState, IsLawful, IsSettled, OnSeen};
 ghost use Rattle.dr_disk.specs.Spans.{GoesBy};
 ghost use Rattle.dr_disk.specs.Calls.{Unwritten, WrittenIn, LeavesWritten, LeavesSame, Goes, ReadGoes, HasFault};
 
@@ -24,6 +24,15 @@ pub trait Disk {
         requires { at + length into.old ≤ (state self.old).size }
         ensures bytes { OnOk result ((s : List ℕ) → (state self.old).seen ≡ Option.Some s →
             into.new ≡ slice_range s at (at + length into.old)) }
+        ensures passes { GoesBy (state self.old) (state self.new) }
+        ensures unwritten { Unwritten (state self.old) (state self.new) }
+        ensures told { ReadGoes (state self.old) (state self.new) result }
+        ensures cause { HasFault Read (state self.old) (state self.new) result };
+
+    /// A place from which on a read gives zeros: how far the disk has to be looked at. The call
+    /// counts as a read.
+    fn end(&mut self) -> Result<u64, Failed>
+        ensures zeros { IfOk result (λ end. OnSeen (EndsBy end) (state self.old)) }
         ensures passes { GoesBy (state self.old) (state self.new) }
         ensures unwritten { Unwritten (state self.old) (state self.new) }
         ensures told { ReadGoes (state self.old) (state self.new) result }

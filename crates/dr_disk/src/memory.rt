@@ -133,6 +133,14 @@ impl Disk for MemoryDisk {
         Ok(())
     }
 
+    fn end(&mut self) -> Result<u64, Failed> {
+        if !self.meter.passes_reads() {
+            count_fault(&mut self.reads);
+            return Err(Failed);
+        }
+        Ok(self.platter.bytes.len() as u64)
+    }
+
     fn write_at(&mut self, at: u64, bytes: &[u8]) -> Result<(), Failed> {
         if !self.meter.passes() {
             self.platter.ask(at as usize, bytes);

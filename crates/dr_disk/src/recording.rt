@@ -78,6 +78,10 @@ impl Disk for RecordingDisk {
         Ok(())
     }
 
+    fn end(&mut self) -> Result<u64, Failed> {
+        Ok(self.platter.bytes.len() as u64)
+    }
+
     fn write_at(&mut self, at: u64, bytes: &[u8]) -> Result<(), Failed>
         requires { at + length bytes.now ≤ (recording_state_of self.old).size }
         ensures written { OnOk result ((recording_state_of self.new).seen ≡

@@ -51,6 +51,10 @@ impl Disk for SteadyDisk {
         Ok(())
     }
 
+    fn end(&mut self) -> Result<u64, Failed> {
+        Ok(self.platter.bytes.len() as u64)
+    }
+
     fn write_at(&mut self, at: u64, bytes: &[u8]) -> Result<(), Failed> {
         self.platter.write(at as usize, bytes);
         count_passed(&mut self.passed);

@@ -10,4 +10,6 @@ pub mod TurnedViews
 pub mod WorldGrowth
 pub mod PeerStates
 pub mod SaidStays
+pub mod Apart
+pub mod Standing
 pub mod Texts

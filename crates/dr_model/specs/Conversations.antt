@@ -2,6 +2,7 @@ pub mod Formats
 pub mod Conversation
 pub mod Indices
 pub mod Posts
+pub mod Standing
 pub mod Views
 pub mod ViewStates
 pub mod Receipts

@@ -33,6 +33,7 @@ use Rattle.scripts.specs.Sides.{acting_side, deed_side}
 use Rattle.duet.specs.Stops.{cut_event, stopped_in, stopped_on}
 use Rattle.parties.specs.Stops.{cut_of}
 use Rattle.scripts.specs.Script.{Scripted}
+use Rattle.duet.specs.Receipts.{ReceiptsHold}
 use Rattle.duet.specs.Tally.{both_reached, both_reached_in, counted_all, counted_by, opening_tally, tally_in, tally_of}
 use Rattle.duet.specs.Trace.{IsUnforgedDeed, IsUnforgedPlay, IsUnforgedScript, after_by, beginning_in, lines_by, played, trace_of}
 use Rattle.duet.specs.declared.tally.Tally.{Tally}
@@ -41,6 +42,7 @@ use Rattle.duet.proofs.SaidSyncs.{sync_fair, sync_honest}
 use Rattle.duet.proofs.SyncsFollow.{sync_follows, sync_leaves}
 use Rattle.parties.specs.Shuts.{Shut}
 use Rattle.duet.specs.Shuts.{Shuts, asks_open, both_open, needs_open, shut_of}
+use Rattle.duet.proofs.Arriving.{deed_arrives}
 use Rattle.duet.proofs.Barred.{is_open}
 use Rattle.duet.proofs.FailsFollow.{fails_follow, fails_honest, same_acted}
 use Rattle.duet.proofs.Moving.{if_any, if_none, keeps_shut, one_of}
@@ -163,12 +165,13 @@ record RunsAlike (k : Mechanism) (s : WorldBeside) (deeds : List Deed) : Type 0 
   lines : lines_by (deed_on k) (seen_beside k s) deeds ≡ lines_by (deed_in k) s deeds
   counts : (t : Tally) → counted_by (deed_on k) (seen_beside k s) t deeds ≡ counted_by (deed_in k) s t deeds
   leads : after_by (deed_on k) (seen_beside k s) deeds ≡ seen_beside k (after_by (deed_in k) s deeds)
+  receipts : ReceiptsHold k s deeds
   honest : IsHonest k (after_by (deed_in k) s deeds)
 
 run_follows : (k : Mechanism) (s : WorldBeside) (deeds : List Deed) → IsLawfulMechanism k → IsHonest k s → All HasWholeSeed deeds
     → IsUnforgedPlay k s deeds → RunsAlike k s deeds
-unfolding lines_by counted_by after_by
-run_follows k s [] law honest whole unforged = record { lines = refl; counts = λ t. refl; leads = refl; honest = honest }
+unfolding lines_by counted_by after_by ReceiptsHold
+run_follows k s [] law honest whole unforged = record { lines = refl; counts = λ t. refl; leads = refl; receipts = tt; honest = honest }
 run_follows k s (deed ∷ deeds) law honest whole unforged =
     let first = deed_follows k s deed law honest (All-head HasWholeSeed deed deeds whole) unforged.0 in
     let later = run_follows k (deed_in k s deed).next deeds law first.honest (All-tail HasWholeSeed deed deeds whole) unforged.1 in
@@ -178,6 +181,7 @@ run_follows k s (deed ∷ deeds) law honest whole unforged =
       counts = λ t. ap (λ (made : SidesPlayed). counted_by (deed_on k) made.next (counted_all (deed_side deed) made.answers t) deeds) first.same
           ∙ later.counts (counted_all (deed_side deed) (deed_in k s deed).answers t);
       leads = ap (λ (made : SidesPlayed). after_by (deed_on k) made.next deeds) first.same ∙ later.leads;
+      receipts = (deed_arrives k s honest.lawful deed law honest, later.receipts);
       honest = later.honest;
     }
 
@@ -233,6 +237,10 @@ tallies_follow k script law pairs whole fair =
     let run = script_follows k script law pairs whole fair in
     ap₂ (λ (end : SidesBeside) (t : Tally). both_reached end.ends t) run.leads (run.counts (opening_tally script.rounds))
     ∙ reached_alike k (after_by (deed_in k) s script.deeds).ends (counted_by (deed_in k) s (opening_tally script.rounds) script.deeds)
+
+pub receipts_hold : (k : Mechanism) (script : Scripted) → IsLawfulMechanism k → is_some (k.meaning.pair_of (agreement_seed script.key)) ≡ true
+    → All HasWholeSeed script.deeds → IsUnforgedScript k script → ReceiptsHold k (beginning_in k script) script.deeds
+receipts_hold k script law pairs whole fair = (script_follows k script law pairs whole fair).receipts
 
 -- what waits no more after a take has arrived
 pub arrives : (k : Mechanism) (script : Scripted) (side : Side) (source : PacketSource) (p : Position) → IsLawfulMechanism k

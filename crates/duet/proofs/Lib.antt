@@ -1,3 +1,4 @@
+pub mod Arriving
 pub mod Barred
 pub mod Beginning
 pub mod FailsFollow

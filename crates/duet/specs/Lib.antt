@@ -9,4 +9,5 @@ pub mod Shuts
 pub mod Stops
 pub mod Summary
 pub mod Tally
+pub mod Receipts
 pub mod Trace

@@ -12,6 +12,7 @@ ghost use Rattle.dr_model.specs.Machines.Events.{PacketSource, does, takes};
 ghost use Rattle.dr_model.specs.Machines.Worlds.{step_of, view_of};
 ghost use Rattle.dr_model.specs.Theorems.Receipts.{EndsWaiting};
 ghost use Rattle.duet.specs.Outcomes.{deed_in};
+ghost use Rattle.duet.specs.Receipts.{ReceiptsHold};
 ghost use Rattle.duet.specs.Tally.{tally_in, tally_of};
 ghost use Rattle.duet.specs.Trace.{IsUnforgedScript, after_by, beginning_in, played, trace_of};
 ghost use Rattle.scripts.specs.Deeds.{HasWholeSeed};
@@ -26,11 +27,16 @@ pub fn played_is_the_trace()
         → played k script ≡ trace_of k script }
 {}
 
-/// Receipts hold in a script's world, whatever was played before, with stops, failing calls and
-/// syncs in it, under the same premises: each own text whose waiting a take ends there was opened
-/// by the other side.
+/// Receipts hold in a script's world, under the same premises: each own text whose waiting a take
+/// ends was opened by the other side. So it is of each line of the script in which a side takes
+/// packets, also where its disk stops or fails meanwhile, where it opens again, and where it syncs;
+/// and of one more take after the script.
 pub fn receipts_hold()
-    ensures { (k : Mechanism) (script : Scripted) (side : Side) (source : PacketSource)
+    ensures within { (k : Mechanism) (script : Scripted) → IsLawfulMechanism k
+        → is_some (k.meaning.pair_of (agreement_seed script.key)) ≡ true
+        → All HasWholeSeed script.deeds → IsUnforgedScript k script
+        → ReceiptsHold k (beginning_in k script) script.deeds }
+    ensures after { (k : Mechanism) (script : Scripted) (side : Side) (source : PacketSource)
         (p : Position) → IsLawfulMechanism k
         → is_some (k.meaning.pair_of (agreement_seed script.key)) ≡ true
         → All HasWholeSeed script.deeds → IsUnforgedScript k script

@@ -1,11 +1,13 @@
 //! A script, played: each deed is done, and its lines are written before the next.
 
-ghost use Rattle.std.specs.Prelude.{◌≡◌, ◌≤◌, ◌⊎◌, IsNone, IsSome, IfOk, OnOk, IsErrOf};
+ghost use Rattle.std.specs.Prelude.{◌≡◌, ◌≤◌, ◌⊎◌, All, IsNone, IsSome, IfOk, OnOk, IsErrOf};
 ghost use Rattle.dr_ports.specs.Ports.{Rose, appended};
 ghost use Rattle.dr_ports.specs.Writing.{TookBeginning};
 ghost use Rattle.session_model.specs.Schedule.{agreement_seed};
+ghost use Rattle.duet.specs.Receipts.{ReceiptsHold};
 ghost use Rattle.duet.specs.Tally.{tally_of};
-ghost use Rattle.duet.specs.Trace.{played};
+ghost use Rattle.duet.specs.Trace.{IsUnforgedScript, beginning_in, played};
+ghost use Rattle.scripts.specs.Deeds.{HasWholeSeed};
 
 use crate::deeds::{Cut, play_deed};
 use crate::sides::Duet;
@@ -41,6 +43,11 @@ pub fn play<K: Kem, O: Sink>(
     ensures tally { IfOk result (λ tally. tally ≡ tally_of K.mechanism script.now) }
     ensures pair { OnOk result
         (IsSome (K.mechanism.meaning.pair_of (agreement_seed script.now.key))) }
+    // At each line in which a side takes packets: each own text of its that waits no more then was
+    // opened by the other side.
+    ensures receipts { OnOk result (All HasWholeSeed script.now.deeds
+        → IsUnforgedScript K.mechanism script.now
+        → ReceiptsHold K.mechanism (beginning_in K.mechanism script.now) script.now.deeds) }
     ensures none { IsErrOf result PlayError.NoPair
         → IsNone (K.mechanism.meaning.pair_of (agreement_seed script.now.key))
         × ((O.at out.new).taken ≡ (O.at out.old).taken) }

@@ -18,6 +18,7 @@ use client::Begin;
 use dr_base::{Key32, Side};
 use kem_laws::Kem;
 use parties::{BeginError, ClientCall, Party, Post};
+use relay_core::BoxSpec;
 use relay_link::RelayLink;
 use scripts::{Line, LineCall};
 use session_model::{Answer, Items};
@@ -83,7 +84,9 @@ impl<K: Kem> Duet<K> {
             Err(error) => return Err(error),
         };
         let names = first.names();
-        let Ok(relay) = RelayLink::new(alloc, &[names.own, names.peers]) else {
+        let own = BoxSpec { name: names.own };
+        let peers = BoxSpec { name: names.peers };
+        let Ok(relay) = RelayLink::new(alloc, &[own, peers]) else {
             return Err(BeginError::Memory);
         };
         begin.side = Side::Second;

@@ -36,10 +36,7 @@ fn write_entry<K: Kem, O: Sink>(
         (entry_line side (slice_index_or party.now.kept.inbox at d)) result }
 {
     match party.inbox_at(at as usize) {
-        Some(entry) => write_all(
-            out,
-            text_line(side_name(side), entry.position, entry.text).as_slice(),
-        ),
+        Some(entry) => write_all(out, text_line(side_name(side), &entry).as_slice()),
         None => Ok(()),
     }
 }

@@ -111,6 +111,16 @@ impl<'a, R: Files<File = File>> Disk for FileDisk<'a, R> {
         }
     }
 
+    fn end(&mut self) -> Result<u64, Failed> {
+        match self.handle.len() {
+            Ok(end) => Ok(end),
+            Err(_) => {
+                count_fault(&mut self.reads);
+                Err(Failed)
+            }
+        }
+    }
+
     fn write_at(&mut self, at: u64, bytes: &[u8]) -> Result<(), Failed> {
         let length = room_end(self.step, self.size, at + bytes.len() as u64);
         match self.handle.write(at, bytes, length) {

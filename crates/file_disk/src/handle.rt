@@ -122,6 +122,15 @@ impl<'a, R: Files<File = File>> Handle<'a, R> {
         }
     }
 
+    /// How many bytes the file has, none where there is no file.
+    pub(crate) fn len(&mut self) -> io::Result<u64> {
+        self.look()?;
+        match &self.stage {
+            Stage::Open { file, written: _ } => Ok(file.metadata()?.len()),
+            _ => Ok(0),
+        }
+    }
+
     /// Writes over the bytes from a place on. A file that has fewer bytes than `length` is given
     /// these first, and where there is no file it is made. A file that was made and couldn't be
     /// given its bytes is removed again.

@@ -5,6 +5,7 @@
 
 pub use file::FileDisk;
 pub use opening::Sharing;
+pub use own_file::limits_in_numbers;
 
 mod file;
 mod handle;

@@ -3,6 +3,7 @@
 ghost use Rattle.std.specs.Prelude.{◌≤◌, ◌↔◌, length, IsOk, IfOk};
 ghost use Rattle.std.specs.Fd.{file_raw_fd};
 ghost use Rattle.dr_base.specs.Descriptors.{IsOwn};
+ghost use Rattle.file_disk.specs.Limits.{HasLimits};
 
 use crate::opening::Sharing;
 use std::fs::{File, Metadata, Permissions};
@@ -129,3 +130,8 @@ impl OwnFile {
         self.file.sync_all()
     }
 }
+
+/// The limits of this crate as numbers. The function has no code.
+pub fn limits_in_numbers()
+    ensures { HasLimits }
+{}

@@ -8,64 +8,65 @@ use Rattle.endings.specs.Ends.{Ends}
 use Rattle.endings.specs.declared.ending.Ending.{Ending}
 use Rattle.endings.specs.declared.ending.Ending.TheVariants.{NoMemory, Usage}
 use Rattle.command_words.specs.Commands.{Work, command_of, begins, says, takes, shows_inbox, drops_done, drops_sent, shows_awaiting, shows_outbox, shows_state, checks, syncs, serves, plays, plays_made}
+use Rattle.command_lines.specs.Listings.{lines_of}
+use Rattle.command_lines.specs.declared.listing.Listing.TheVariants.{Awaiting, Inbox, Outbox, State}
 use Rattle.session_model.specs.declared.answer.Items.TheVariants.{Packets, Texts}
 use Rattle.session_commands.specs.Asking.{asked_drop, asked_say}
 use Rattle.session_commands.specs.Beginning.{RunsBegin}
 use Rattle.session_commands.specs.Checking.{RunsCheck}
 use Rattle.session_commands.specs.InWorlds.{RunsAct}
-use Rattle.session_commands.specs.Lines.{awaiting_lines, inbox_lines, outbox_lines, state_lines}
 use Rattle.session_commands.specs.Runs.{Runs, RunsTake}
 use Rattle.session_commands.specs.Showing.{RunsShow}
 use Rattle.session_commands.specs.Syncing.{RunsSync}
 use Rattle.relay_command.specs.Relaying.{RunsRelay}
 use Rattle.sntrup761.specs.Mechanism.{sntrup761_kem}
 use Rattle.messenger_cli.specs.Arguments.{ending_without_words, words_of}
-use Rattle.messenger_cli.specs.Held.{PortsNow, LeavesAllButSink, IsOffline, Seen}
+use Rattle.messenger_cli.specs.Held.{IsOffline, LeavesAllButSink, Ports, PortsNow, Seen}
 use Rattle.messenger_cli.specs.Making.{PlaysMade}
 use Rattle.messenger_cli.specs.Runs.{RunsDuet}
 
 -- a command that comes to an ending with its lines, and what was written of them
-abbrev pub WritesEnding : {X R S L A W : Type 0} → (Ending → List ℕ → Type 0) → PortsNow X R S L A W → PortsNow X R S L A W → ℕ → Type 0
+abbrev pub WritesEnding : {P : Ports} → (Ending → List ℕ → Type 0) → PortsNow P → PortsNow P → ℕ → Type 0
 WritesEnding comes old new code = Runs comes old.sink new.sink code
 
 -- nothing was done: just this last line was written
-pub record EndsIdle {X R S L A W : Type 0} (ending : Ending) (old new : PortsNow X R S L A W) (code : ℕ) : Type 0 where
+pub record EndsIdle {P : Ports} (ending : Ending) (old new : PortsNow P) (code : ℕ) : Type 0 where
   pub ends : Ends ending [] old.sink new.sink code
   pub idle : LeavesAllButSink old new
 
 -- a command on the disk and the source
-pub record ReadsAndWrites {X R S L A W : Type 0} (comes : Ending → List ℕ → Type 0) (old new : PortsNow X R S L A W) (code : ℕ) : Type 0 where
+pub record ReadsAndWrites {P : Ports} (comes : Ending → List ℕ → Type 0) (old new : PortsNow P) (code : ℕ) : Type 0 where
   pub writes : WritesEnding comes old new code
   pub draws : new.draws ≡ old.draws
   pub offline : IsOffline old new
 
 -- a command on the disk and the draws
-pub record DrawsAndWrites {X R S L A W : Type 0} (comes : Ending → List ℕ → Type 0) (old new : PortsNow X R S L A W) (code : ℕ) : Type 0 where
+pub record DrawsAndWrites {P : Ports} (comes : Ending → List ℕ → Type 0) (old new : PortsNow P) (code : ℕ) : Type 0 where
   pub writes : WritesEnding comes old new code
   pub source : new.source ≡ old.source
   pub offline : IsOffline old new
 
 -- a command on the disk alone
-pub record WritesAlone {X R S L A W : Type 0} (comes : Ending → List ℕ → Type 0) (old new : PortsNow X R S L A W) (code : ℕ) : Type 0 where
+pub record WritesAlone {P : Ports} (comes : Ending → List ℕ → Type 0) (old new : PortsNow P) (code : ℕ) : Type 0 where
   pub writes : WritesEnding comes old new code
   pub source : new.source ≡ old.source
   pub draws : new.draws ≡ old.draws
   pub offline : IsOffline old new
 
 -- a script is played: the disks, the link, the door and the draws are left alone
-pub record PlaysAlone {X R S L A W : Type 0} (seen : Seen X R S L A W) (old new : PortsNow X R S L A W) (code : ℕ) : Type 0 where
+pub record PlaysAlone {P : Ports} (seen : Seen P) (old new : PortsNow P) (code : ℕ) : Type 0 where
   pub plays : RunsDuet (seen.source old.source) (seen.source new.source) old.sink new.sink code
   pub disk : new.disk ≡ old.disk
   pub draws : new.draws ≡ old.draws
   pub offline : IsOffline old new
 
 -- a script made from a number is played: all but the sink is left alone
-pub record MakesAlone {X R S L A W : Type 0} (rounds number : ℕ) (old new : PortsNow X R S L A W) (code : ℕ) : Type 0 where
+pub record MakesAlone {P : Ports} (rounds number : ℕ) (old new : PortsNow P) (code : ℕ) : Type 0 where
   pub writes : WritesEnding (PlaysMade rounds number) old new code
   pub idle : LeavesAllButSink old new
 
 -- a sync at an address: the relay's disk, the source, the door and the draws are left alone
-pub record SyncsAlone {X R S L A W : Type 0} (seen : Seen X R S L A W) (address : List ℕ) (old new : PortsNow X R S L A W) (code : ℕ)
+pub record SyncsAlone {P : Ports} (seen : Seen P) (address : List ℕ) (old new : PortsNow P) (code : ℕ)
     : Type 0 where
   pub writes : WritesEnding (RunsSync seen.disk seen.link sntrup761_kem address old.disk new.disk old.link new.link old.sink.faults new.sink.faults) old new code
   pub relay_disk : new.relay_disk ≡ old.relay_disk
@@ -74,7 +75,7 @@ pub record SyncsAlone {X R S L A W : Type 0} (seen : Seen X R S L A W) (address 
   pub draws : new.draws ≡ old.draws
 
 -- a relay serves: the session's disk, the source, the link and the draws are left alone
-pub record ServesAlone {X R S L A W : Type 0} (seen : Seen X R S L A W) (port count : ℕ) (boxes : List (List ℕ)) (old new : PortsNow X R S L A W)
+pub record ServesAlone {P : Ports} (seen : Seen P) (port count : ℕ) (boxes : List (List ℕ)) (old new : PortsNow P)
     (code : ℕ) : Type 0 where
   pub serves : RunsRelay seen.relay_disk seen.door boxes port count old.relay_disk new.relay_disk old.door new.door old.sink new.sink code
   pub disk : new.disk ≡ old.disk
@@ -83,8 +84,8 @@ pub record ServesAlone {X R S L A W : Type 0} (seen : Seen X R S L A W) (port co
   pub draws : new.draws ≡ old.draws
 
 -- What a command comes to. Sessions are over sntrup761.
-abbrev pub Performs : {X R S L A W : Type 0} → Work → Seen X R S L A W
-    → PortsNow X R S L A W → PortsNow X R S L A W → ℕ → Type 0
+abbrev pub Performs : {P : Ports} → Work → Seen P
+    → PortsNow P → PortsNow P → ℕ → Type 0
 Performs (begins side format) seen old new code =
     ReadsAndWrites (RunsBegin seen.disk sntrup761_kem side format
     (seen.source old.source) (seen.source new.source) old.disk new.disk) old new code
@@ -101,13 +102,13 @@ Performs (drops_sent n) seen old new code =
     WritesAlone (RunsAct seen.disk sntrup761_kem (asked_drop (dropping Packets n))
     old.disk new.disk) old new code
 Performs shows_inbox seen old new code =
-    WritesAlone (RunsShow seen.disk sntrup761_kem inbox_lines old.disk new.disk) old new code
+    WritesAlone (RunsShow seen.disk sntrup761_kem (lines_of Inbox) old.disk new.disk) old new code
 Performs shows_outbox seen old new code =
-    WritesAlone (RunsShow seen.disk sntrup761_kem outbox_lines old.disk new.disk) old new code
+    WritesAlone (RunsShow seen.disk sntrup761_kem (lines_of Outbox) old.disk new.disk) old new code
 Performs shows_awaiting seen old new code =
-    WritesAlone (RunsShow seen.disk sntrup761_kem awaiting_lines old.disk new.disk) old new code
+    WritesAlone (RunsShow seen.disk sntrup761_kem (lines_of Awaiting) old.disk new.disk) old new code
 Performs shows_state seen old new code =
-    WritesAlone (RunsShow seen.disk sntrup761_kem state_lines old.disk new.disk) old new code
+    WritesAlone (RunsShow seen.disk sntrup761_kem (lines_of State) old.disk new.disk) old new code
 Performs checks seen old new code =
     WritesAlone (RunsCheck seen.disk sntrup761_kem old.disk new.disk) old new code
 Performs plays seen old new code = PlaysAlone seen old new code
@@ -118,20 +119,20 @@ Performs (syncs address) seen old new code = SyncsAlone seen address old new cod
 
 -- What the program does on words: what the command that they are comes to, or the last line of
 -- words that are none.
-abbrev pub AnswersWords : {X R S L A W : Type 0} → Option Work → Seen X R S L A W
-    → PortsNow X R S L A W → PortsNow X R S L A W → ℕ → Type 0
+abbrev pub AnswersWords : {P : Ports} → Option Work → Seen P
+    → PortsNow P → PortsNow P → ℕ → Type 0
 AnswersWords None seen old new code = EndsIdle Usage old new code
 AnswersWords (Some work) seen old new code = Performs work seen old new code
 
 -- or memory was wanting for the words, and nothing was done
-abbrev pub RunsProgram : {X R S L A W : Type 0} → Option Work → Seen X R S L A W
-    → PortsNow X R S L A W → PortsNow X R S L A W → ℕ → Type 0
+abbrev pub RunsProgram : {P : Ports} → Option Work → Seen P
+    → PortsNow P → PortsNow P → ℕ → Type 0
 RunsProgram asked seen old new code =
     AnswersWords asked seen old new code ⊎ EndsIdle NoMemory old new code
 
 -- The same of the arguments as the system gave them. Arguments that aren't text are no command.
-abbrev pub RunsArguments : {X R S L A W : Type 0} → Result (IntoIter (String Global) Global) Error
-    → Seen X R S L A W → PortsNow X R S L A W → PortsNow X R S L A W → ℕ → Type 0
+abbrev pub RunsArguments : {P : Ports} → Result (IntoIter (String Global) Global) Error
+    → Seen P → PortsNow P → PortsNow P → ℕ → Type 0
 RunsArguments (Ok arguments) seen old new code =
     RunsProgram (command_of (map string_bytes (words_of arguments))) seen old new code
 RunsArguments (Err error) seen old new code = EndsIdle (ending_without_words error) old new code

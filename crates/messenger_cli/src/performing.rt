@@ -7,12 +7,13 @@ ghost use Rattle.messenger_cli.specs.Performing.{Performs};
 
 use crate::making::play_made;
 use crate::playing::play_script;
+use command_lines::Listing;
 use command_words::Command;
 use dr_disk::Disk;
 use dr_ports::{Door, Draws, Link, Sink, Source};
 use endings::Status;
 use relay_command::relay;
-use session_commands::{awaiting, begin, check, drop_items, inbox, outbox, say, state, sync, take};
+use session_commands::{begin, check, drop_items, say, show, sync, take};
 use session_model::Items;
 use sntrup761::Sntrup761;
 use std::alloc::Global;
@@ -44,12 +45,12 @@ pub(crate) fn perform<D: Disk, R: Disk, S: Source, O: Sink, L: Link, A: Door, W:
         ),
         Command::Say(text) => say::<Sntrup761, D, O, W>(alloc, text.as_bytes(), disk, out, draws),
         Command::Take => take::<Sntrup761, D, S, O>(alloc, disk, source, out),
-        Command::Inbox => inbox::<Sntrup761, D, O>(alloc, disk, out),
+        Command::Inbox => show::<Sntrup761, D, O>(alloc, Listing::Inbox, disk, out),
         Command::Done(n) => drop_items::<Sntrup761, D, O>(alloc, Items::Texts, n, disk, out),
         Command::Sent(n) => drop_items::<Sntrup761, D, O>(alloc, Items::Packets, n, disk, out),
-        Command::Outbox => outbox::<Sntrup761, D, O>(alloc, disk, out),
-        Command::Awaiting => awaiting::<Sntrup761, D, O>(alloc, disk, out),
-        Command::State => state::<Sntrup761, D, O>(alloc, disk, out),
+        Command::Outbox => show::<Sntrup761, D, O>(alloc, Listing::Outbox, disk, out),
+        Command::Awaiting => show::<Sntrup761, D, O>(alloc, Listing::Awaiting, disk, out),
+        Command::State => show::<Sntrup761, D, O>(alloc, Listing::State, disk, out),
         Command::Check => check::<Sntrup761, D, O>(alloc, disk, out),
         Command::Duet => play_script(alloc, source, out),
         Command::Sync(address) => sync::<Sntrup761, D, L, O>(alloc, address, disk, link, out),

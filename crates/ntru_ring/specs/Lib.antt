@@ -8,3 +8,4 @@ pub mod Rows3
 pub mod Planes
 pub mod Elements
 pub mod Powers
+pub mod Limits

@@ -11,6 +11,7 @@ ghost use Rattle.ntru_ring.specs.Reduction.{reduced, IsInverse, Annihilates};
 ghost use Rattle.ntru_ring.specs.Elimination.{IsMultiple, IsCombined};
 ghost use Rattle.ntru_ring.specs.RowsQ.{IsEchelonQ, AreMultiplesQ};
 ghost use Rattle.ntru_ring.specs.declared.rows_q.RowQ.{RowQ};
+ghost use Rattle.ntru_ring.specs.Limits.{HasLimits};
 
 use crate::blocks_q::candidate::{candidate_by_blocks, element_without_pattern};
 use crate::groups::{group_end, group_start};
@@ -176,3 +177,8 @@ pub fn inverse_q(work: &mut Workspace, f: &Rq) -> Result<Rq, AnnihilatedQ>
         None => inverse_by_rows(work, f),
     }
 }
+
+/// The limits of this crate as numbers. The function has no code.
+pub fn limits_in_numbers()
+    ensures { HasLimits }
+{}

@@ -32,7 +32,7 @@ mod units_q;
 mod words_three;
 mod working;
 
-pub use elimination_q::{AnnihilatedQ, inverse_q, quick_inverse_q};
+pub use elimination_q::{AnnihilatedQ, inverse_q, limits_in_numbers, quick_inverse_q};
 pub use elimination_three::{Annihilated3, inverse3, quick_inverse3};
 pub use modulo_q::Rq;
 pub use modulo_three::R3;

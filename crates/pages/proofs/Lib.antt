@@ -1,4 +1,6 @@
 pub mod Newest
+pub mod Standings
+pub mod JudgedRead
 pub mod Shots
 pub mod Around
 pub mod Unnamed
@@ -17,3 +19,5 @@ pub mod Cleared
 pub mod Hushed
 pub mod TidyCalls
 pub mod SoundLayouts
+pub mod RowPages
+pub mod ReadAhead

@@ -1,6 +1,8 @@
 pub mod Blank
 pub mod Closed
+pub mod CutSyncs
 pub mod Ended
+pub mod GoingOver
 pub mod LawfulActs
 pub mod Meets
 pub mod SaidActs

@@ -1,5 +1,7 @@
 pub mod Acts
+pub mod CutSyncs
 pub mod Failing
+pub mod GoingOver
 pub mod Meetings
 pub mod Parties
 pub mod Shuts

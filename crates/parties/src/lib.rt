@@ -19,12 +19,15 @@
 #![tactic(auto)]
 
 pub use acts::{ClientCall, Seeded};
+pub use handing::{goes_over, hand_over};
 pub use party::{BeginError, Party};
 pub use post::{Packet, Post};
 
 mod acts;
+mod cutting;
 mod failing;
 mod given;
+mod handing;
 mod meeting;
 mod party;
 mod post;

@@ -137,11 +137,11 @@ opened_follows k s f (Ok way) draft l found is =
     (record { side = after.side; before = after.before })
 
 -- the draft of a packet
-pub lawful_received : (k : Mechanism) (s : State) (position : Position) (text : List ℕ) (head : State) (table : Option (List Kept))
+pub lawful_received : (k : Mechanism) (s : State) (position : Position) (kind : ℕ) (text : List ℕ) (head : State) (table : Option (List Kept))
     → IsLawfulState k s → IsLawfulState k (record head { kept = kept_in [] table })
-    → (let d : Received = record { position = position; text = text; head = head; table = table } in
+    → (let d : Received = record { position = position; kind = kind; text = text; head = head; table = table } in
     IsReceiveDraft k s (received_of s d) → IsLawfulState k (received_of s d).next)
 unfolding draft_receive
-lawful_received k s position text head None l h of =
+lawful_received k s position kind text head None l h of =
     filled k s head l (opened_follows k s of.packet (way_of k s of.packet) _ l refl of.gives) h
-lawful_received k s position text head (Some table) l h of = h
+lawful_received k s position kind text head (Some table) l h of = h

@@ -28,10 +28,11 @@ pub record Said : Type 0 where
   pub post : Post
   pub head : State
 
--- a draft of a packet: its position, its text, and the head that the session would keep; the kept
--- keys, where the packet changes them
+-- a draft of a packet: its position, its text and kind, and the head that the session would keep;
+-- the kept keys, where the packet changes them
 pub record Received : Type 0 where
   pub position : Position
+  pub kind : ℕ
   pub text : List ℕ
   pub head : State
   pub table : Option (List Kept)
@@ -54,6 +55,7 @@ said_of s d = record { post = d.post; next = record d.head { kept = s.kept } }
 abbrev pub received_of : State → Received → ReceiveDraft
 received_of s d = record {
   position = d.position;
+  kind = d.kind;
   text = d.text;
   next = record d.head { kept = kept_in s.kept d.table };
 }
@@ -66,8 +68,9 @@ received_as s (Err e) = Err (receive_refusal e)
 abbrev pub drafted : Post → State → SendDraft
 drafted post next = record { post = post; next = next }
 
-abbrev pub received : Position → List ℕ → State → ReceiveDraft
-received position text next = record { position = position; text = text; next = next }
+abbrev pub received : Position → Body → State → ReceiveDraft
+received position body next =
+    record { position = position; kind = body.kind; text = body.content; next = next }
 
 abbrev pub on_way : List ℕ → State → Way
 on_way key next = record { key = key; next = next }
@@ -85,6 +88,6 @@ went_on (InPeers public) chain sent = InPeers public
 -- the draft that an opened body and what is kept then make, or why there is none
 abbrev pub opened : Result Body ReceiveRefusal → Fields → State → Result ReceiveDraft Refusal
 opened (Ok body) f next =
-    Ok (received (position_of f) body.content
+    Ok (received (position_of f) body
     (record next { awaiting = still_waiting body.receipt next.awaiting }))
 opened (Err e) f next = Err (receive_refusal e)

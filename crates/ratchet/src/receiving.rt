@@ -13,7 +13,7 @@ use crate::rooms::{Message, OpeningRoom, open};
 use crate::session::Session;
 use crate::table::{kept_in, settle};
 use crate::way::find_key;
-use bodies::{Body, open_body};
+use bodies::{Body, TEXT_KIND, open_body};
 use dr_base::{Position, Side};
 use etm_aead::OpenKey;
 use fs_aead::Skipped;
@@ -22,13 +22,14 @@ use packet::View;
 use session_model::{Head, LentPart, ReceiveRefusal};
 use std::marker::Model;
 
-/// A packet that opens: its text, and the head that the session would keep, with kept keys only
-/// where the packet changes them. The text and these keys stand in room that the caller lends. It
-/// changes nothing until it is accepted.
+/// A packet that opens: its text, its kind, and the head that the session would keep, with kept
+/// keys only where the packet changes them. The text and these keys stand in room that the caller
+/// lends. It changes nothing until it is accepted.
 ///
 /// It can't be copied, and it has to be spent: by `accept`, or by `discard`.
 pub struct ReceiveDraft<'a, K: Kem> {
     position: Position,
+    kind: u8,
     text: &'a [u8],
     head: Head<K>,
     /// None where the session's kept keys stay.
@@ -46,6 +47,7 @@ impl<'a, K: Kem> Model for ReceiveDraft<'a, K> {
 
     ghost view = { λ d. record {
       position = d.position;
+      kind = d.kind;
       text = d.text.now;
       head = seen d.head [];
       table = option_map (λ t. t.now) d.table;
@@ -62,6 +64,13 @@ impl<K: Kem> ReceiveDraft<'_, K> {
         ensures { result ≡ self.now.position }
     {
         self.position
+    }
+
+    /// The kind of the text.
+    pub fn kind(&self) -> u8
+        ensures { result ≡ self.now.kind }
+    {
+        self.kind
     }
 
     /// The text.
@@ -95,6 +104,7 @@ impl<K: Kem> ReceiveDraft<'_, K> {
         settle(&mut part.kept, self.table);
         let ReceiveDraft {
             position: _,
+            kind: _,
             text: _,
             head: _,
             table: _,
@@ -105,6 +115,7 @@ impl<K: Kem> ReceiveDraft<'_, K> {
     pub fn discard(self) {
         let ReceiveDraft {
             position: _,
+            kind: _,
             text: _,
             head: _,
             table: _,
@@ -160,6 +171,7 @@ impl<K: Kem> Session<K> {
                 epoch: view.epoch(),
                 index: view.index(),
             },
+            kind: TEXT_KIND,
             text: &[],
             head: part.head.copied(),
             table: None,
@@ -174,6 +186,7 @@ impl<K: Kem> Session<K> {
         match open_text(key, view, &mut room.message) {
             Ok(body) => {
                 draft.head.awaiting.obey(&body.receipt);
+                draft.kind = body.kind;
                 draft.text = body.content;
                 draft.table = room.kept.changed();
                 Ok(draft)

@@ -30,32 +30,32 @@ numbers_from count i body lt =
     ∙ ap (λ l. from_be_bytes w16 (take 2 (drop (5 + 2 * i) body)) ∷ numbers_in (count - (i + 1)) l)
     (drop-drop 2 (5 + 2 * i) body ∙ ap (λ n. drop n body) (let e : 5 + 2 * i + 2 ≡ 5 + 2 * (i + 1) = omega arith in e))
 
-abbrev pub is_entry : ℕ → List ℕ → ℕ → Bool
-is_entry pages earlier n = nat_le 2 n && (nat_lt n pages && not (is_among earlier n))
+abbrev pub is_entry : ℕ → ℕ → List ℕ → ℕ → Bool
+is_entry least pages earlier n = nat_le least n && (nat_lt n pages && not (is_among earlier n))
 
-pub goes_on : (pages at n : ℕ) (earlier rest : List ℕ) → is_entry pages earlier n ≡ true
-    → entry_fault pages earlier at (n ∷ rest) ≡ entry_fault pages (earlier ++ n ∷ []) (at + 2) rest
-goes_on pages at n earlier rest is = ap (λ b. if b then entry_fault pages (earlier ++ n ∷ []) (at + 2) rest else Some at) is
+pub goes_on : (least pages at n : ℕ) (earlier rest : List ℕ) → is_entry least pages earlier n ≡ true
+    → entry_fault least pages earlier at (n ∷ rest) ≡ entry_fault least pages (earlier ++ n ∷ []) (at + 2) rest
+goes_on least pages at n earlier rest is = ap (λ b. if b then entry_fault least pages (earlier ++ n ∷ []) (at + 2) rest else Some at) is
 
-pub stops : (pages at n : ℕ) (earlier rest : List ℕ) → is_entry pages earlier n ≡ false → entry_fault pages earlier at (n ∷ rest) ≡ Some at
-stops pages at n earlier rest is = ap (λ b. if b then entry_fault pages (earlier ++ n ∷ []) (at + 2) rest else Some at) is
+pub stops : (least pages at n : ℕ) (earlier rest : List ℕ) → is_entry least pages earlier n ≡ false → entry_fault least pages earlier at (n ∷ rest) ≡ Some at
+stops least pages at n earlier rest is = ap (λ b. if b then entry_fault least pages (earlier ++ n ∷ []) (at + 2) rest else Some at) is
 
 -- ---- of a whole table, whose first i entries were read
-module _ (pages count i : ℕ) (body numbers : List ℕ) (lt : i < count) where
+module _ (least pages count i : ℕ) (body numbers : List ℕ) (lt : i < count) where
   abbrev pub n : ℕ
   n = from_be_bytes w16 (take 2 (drop (5 + 2 * i) body))
 
-  pub next_fault : is_entry pages numbers n ≡ true → entry_fault pages numbers (6 + 2 * i) (numbers_in (count - i) (drop (5 + 2 * i) body))
-      ≡ entry_fault pages (numbers ++ n ∷ []) (6 + 2 * (i + 1)) (numbers_in (count - (i + 1)) (drop (5 + 2 * (i + 1)) body))
+  pub next_fault : is_entry least pages numbers n ≡ true → entry_fault least pages numbers (6 + 2 * i) (numbers_in (count - i) (drop (5 + 2 * i) body))
+      ≡ entry_fault least pages (numbers ++ n ∷ []) (6 + 2 * (i + 1)) (numbers_in (count - (i + 1)) (drop (5 + 2 * (i + 1)) body))
   next_fault is =
-      ap (λ l. entry_fault pages numbers (6 + 2 * i) l) (numbers_from count i body lt)
-      ∙ goes_on pages (6 + 2 * i) n numbers (numbers_in (count - (i + 1)) (drop (5 + 2 * (i + 1)) body)) is
-      ∙ ap (λ at. entry_fault pages (numbers ++ n ∷ []) at (numbers_in (count - (i + 1)) (drop (5 + 2 * (i + 1)) body))) (let e : 6 + 2 * i + 2 ≡ 6 + 2 * (i + 1) = omega arith in e)
+      ap (λ l. entry_fault least pages numbers (6 + 2 * i) l) (numbers_from count i body lt)
+      ∙ goes_on least pages (6 + 2 * i) n numbers (numbers_in (count - (i + 1)) (drop (5 + 2 * (i + 1)) body)) is
+      ∙ ap (λ at. entry_fault least pages (numbers ++ n ∷ []) at (numbers_in (count - (i + 1)) (drop (5 + 2 * (i + 1)) body))) (let e : 6 + 2 * i + 2 ≡ 6 + 2 * (i + 1) = omega arith in e)
 
-  pub this_fault : is_entry pages numbers n ≡ false → entry_fault pages numbers (6 + 2 * i) (numbers_in (count - i) (drop (5 + 2 * i) body)) ≡ Some (6 + 2 * i)
+  pub this_fault : is_entry least pages numbers n ≡ false → entry_fault least pages numbers (6 + 2 * i) (numbers_in (count - i) (drop (5 + 2 * i) body)) ≡ Some (6 + 2 * i)
   this_fault is =
-      ap (λ l. entry_fault pages numbers (6 + 2 * i) l) (numbers_from count i body lt)
-      ∙ stops pages (6 + 2 * i) n numbers (numbers_in (count - (i + 1)) (drop (5 + 2 * (i + 1)) body)) is
+      ap (λ l. entry_fault least pages numbers (6 + 2 * i) l) (numbers_from count i body lt)
+      ∙ stops least pages (6 + 2 * i) n numbers (numbers_in (count - (i + 1)) (drop (5 + 2 * (i + 1)) body)) is
 
   pub next_read : numbers ≡ numbers_in i (drop 5 body) → numbers ++ n ∷ [] ≡ numbers_in (i + 1) (drop 5 body)
   next_read is =

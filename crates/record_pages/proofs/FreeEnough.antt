@@ -47,8 +47,8 @@ enough : (numbers : List ℕ) (k least : ℕ) → k ≤ length (free_from number
 enough [] k least = omega (arith, all_free k least)
 enough (m ∷ numbers) k least = omega (arith, enough numbers k least, one_less m numbers k least)
 
-pub free_enough : (pages : ℕ) (numbers : List ℕ) → pages - 2 - length numbers ≤ length (free_from numbers (pages - 2) 2)
-free_enough pages numbers = omega (arith, enough numbers (pages - 2) 2)
+pub free_enough : (least pages : ℕ) (numbers : List ℕ) → pages - least - length numbers ≤ length (free_from numbers (pages - least) least)
+free_enough least pages numbers = omega (arith, enough numbers (pages - least) least)
 
 -- what they are
 
@@ -85,13 +85,13 @@ once numbers (suc k) least = by (is_among numbers least) (once numbers k (suc le
       rest,
     )
 
-pub free_entries : (pages : ℕ) (numbers : List ℕ) → AreEntries pages (free_from numbers (pages - 2) 2)
-free_entries pages numbers = record {
-  within = All-weaker (λ n. (2 ≤ n) × (n < 2 + (pages - 2))) (IsEntry pages) (λ n bounds. (bounds.0, omega (arith, bounds.0, bounds.1)))
-      (free_from numbers (pages - 2) 2) (within numbers (pages - 2) 2);
-  once = once numbers (pages - 2) 2;
+pub free_entries : (least pages : ℕ) (numbers : List ℕ) → AreEntries least pages (free_from numbers (pages - least) least)
+free_entries least pages numbers = record {
+  within = All-weaker (λ n. (least ≤ n) × (n < least + (pages - least))) (IsEntry least pages) (λ n bounds. (bounds.0, omega (arith, bounds.0, bounds.1)))
+      (free_from numbers (pages - least) least) (within numbers (pages - least) least);
+  once = once numbers (pages - least) least;
 }
 
 -- none of them is one of the record's
-pub free_unused : (pages : ℕ) (numbers : List ℕ) → AreNone (free_from numbers (pages - 2) 2) numbers
-free_unused pages numbers = unused numbers (pages - 2) 2
+pub free_unused : (least pages : ℕ) (numbers : List ℕ) → AreNone (free_from numbers (pages - least) least) numbers
+free_unused least pages numbers = unused numbers (pages - least) least

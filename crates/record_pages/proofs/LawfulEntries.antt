@@ -9,8 +9,8 @@ use Rattle.record_pages.proofs.Dropped.{IsNone}
 use Rattle.record_pages.proofs.Entries.{goes_on, is_entry}
 
 -- a page's number
-abbrev pub IsEntry : ℕ → ℕ → Type 0
-IsEntry pages n = (2 ≤ n) × (n < pages)
+abbrev pub IsEntry : ℕ → ℕ → ℕ → Type 0
+IsEntry least pages n = (least ≤ n) × (n < pages)
 
 -- each number stands once
 abbrev pub AreOnce : List ℕ → Type 0
@@ -22,8 +22,8 @@ abbrev pub AreNone : List ℕ → List ℕ → Type 0
 AreNone numbers others = All (λ m. IsNone m others) numbers
 
 -- numbers of pages, each once
-pub record AreEntries (pages : ℕ) (numbers : List ℕ) : Type 0 where
-  pub within : All (IsEntry pages) numbers
+pub record AreEntries (least pages : ℕ) (numbers : List ℕ) : Type 0 where
+  pub within : All (IsEntry least pages) numbers
   pub once : AreOnce numbers
 
 -- ---- a test and what it says
@@ -40,17 +40,17 @@ among_none (m ∷ numbers) n none =
     or_from (nat_eq m n) (is_among numbers n) (ne_eqb m n (All-head (λ x. x ≢ n) m numbers none))
     (among_none numbers n (All-tail (λ x. x ≢ n) m numbers none))
 
-entry_of : (pages n : ℕ) (earlier : List ℕ) → is_entry pages earlier n ≡ true → IsEntry pages n × IsNone n earlier
-entry_of pages n earlier is =
-    let first : (nat_le 2 n ≡ true) × ((nat_lt n pages && not (is_among earlier n)) ≡ true) =
-    and_parts (nat_le 2 n) (nat_lt n pages && not (is_among earlier n)) is in
+entry_of : (least pages n : ℕ) (earlier : List ℕ) → is_entry least pages earlier n ≡ true → IsEntry least pages n × IsNone n earlier
+entry_of least pages n earlier is =
+    let first : (nat_le least n ≡ true) × ((nat_lt n pages && not (is_among earlier n)) ≡ true) =
+    and_parts (nat_le least n) (nat_lt n pages && not (is_among earlier n)) is in
     let rest : (nat_lt n pages ≡ true) × (not (is_among earlier n) ≡ true) = and_parts (nat_lt n pages) (not (is_among earlier n)) first.1 in
-    let bounds : IsEntry pages n = (leb-true 2 n first.0, ltb-true n pages rest.0) in
+    let bounds : IsEntry least pages n = (leb-true least n first.0, ltb-true n pages rest.0) in
     (bounds, none_among earlier n (not-true (is_among earlier n) rest.1))
 
-entry_is : (pages n : ℕ) (earlier : List ℕ) → IsEntry pages n → IsNone n earlier → is_entry pages earlier n ≡ true
-entry_is pages n earlier within none =
-    and_from (nat_le 2 n) (nat_lt n pages && not (is_among earlier n)) (le-leb 2 n within.0)
+entry_is : (least pages n : ℕ) (earlier : List ℕ) → IsEntry least pages n → IsNone n earlier → is_entry least pages earlier n ≡ true
+entry_is least pages n earlier within none =
+    and_from (nat_le least n) (nat_lt n pages && not (is_among earlier n)) (le-leb least n within.0)
     (and_from (nat_lt n pages) (not (is_among earlier n)) (lt-ltb n pages within.1)
     (not_from_false (is_among earlier n) (among_none earlier n none)))
 
@@ -66,56 +66,56 @@ last : (m n : ℕ) (earlier : List ℕ) → IsNone m (earlier ++ n ∷ []) → n
 last m n [] none = All-head (λ x. x ≢ m) n [] none
 last m n (e ∷ earlier) none = last m n earlier (All-tail (λ x. x ≢ m) e (earlier ++ n ∷ []) none)
 
-record AreBehind (pages : ℕ) (earlier numbers : List ℕ) : Type 0 where
-  pub within : All (IsEntry pages) numbers
+record AreBehind (least pages : ℕ) (earlier numbers : List ℕ) : Type 0 where
+  pub within : All (IsEntry least pages) numbers
   pub once : AreOnce numbers
   pub apart : AreNone numbers earlier
 
-entries_from : (pages : ℕ) (numbers earlier : List ℕ) (at : ℕ) → entry_fault pages earlier at numbers ≡ None → AreBehind pages earlier numbers
-entries_from pages [] earlier at is = record { within = All-nil (IsEntry pages); once = tt; apart = All-nil (λ m. IsNone m earlier) }
-entries_from pages (n ∷ numbers) earlier at is =
-    by (is_entry pages earlier n) refl is (λ none. entries_from pages numbers (earlier ++ n ∷ []) (at + 2) none)
+entries_from : (least pages : ℕ) (numbers earlier : List ℕ) (at : ℕ) → entry_fault least pages earlier at numbers ≡ None → AreBehind least pages earlier numbers
+entries_from least pages [] earlier at is = record { within = All-nil (IsEntry least pages); once = tt; apart = All-nil (λ m. IsNone m earlier) }
+entries_from least pages (n ∷ numbers) earlier at is =
+    by (is_entry least pages earlier n) refl is (λ none. entries_from least pages numbers (earlier ++ n ∷ []) (at + 2) none)
   where
-    by : (b : Bool) → is_entry pages earlier n ≡ b → (if b then entry_fault pages (earlier ++ n ∷ []) (at + 2) numbers else Some at) ≡ None
-        → (entry_fault pages (earlier ++ n ∷ []) (at + 2) numbers ≡ None → AreBehind pages (earlier ++ n ∷ []) numbers)
-        → AreBehind pages earlier (n ∷ numbers)
+    by : (b : Bool) → is_entry least pages earlier n ≡ b → (if b then entry_fault least pages (earlier ++ n ∷ []) (at + 2) numbers else Some at) ≡ None
+        → (entry_fault least pages (earlier ++ n ∷ []) (at + 2) numbers ≡ None → AreBehind least pages (earlier ++ n ∷ []) numbers)
+        → AreBehind least pages earlier (n ∷ numbers)
     by false isnt none rest = absurd (let e : Some at ≡ None = none in cc)
     by true is none rest =
-        let one : IsEntry pages n × IsNone n earlier = entry_of pages n earlier is in
-        let more : AreBehind pages (earlier ++ n ∷ []) numbers = rest none in
+        let one : IsEntry least pages n × IsNone n earlier = entry_of least pages n earlier is in
+        let more : AreBehind least pages (earlier ++ n ∷ []) numbers = rest none in
         record {
-          within = All-cons (IsEntry pages) n numbers one.0 more.within;
+          within = All-cons (IsEntry least pages) n numbers one.0 more.within;
           once = (All-weaker (λ m. IsNone m (earlier ++ n ∷ [])) (λ x. x ≢ n) (λ m all e. last m n earlier all (sym e)) numbers more.apart, more.once);
           apart = All-cons (λ m. IsNone m earlier) n numbers one.1
               (All-weaker (λ m. IsNone m (earlier ++ n ∷ [])) (λ m. IsNone m earlier) (λ m all. before m n earlier all) numbers more.apart);
         }
 
-pub entries_lawful : (pages : ℕ) (numbers : List ℕ) → entry_fault pages [] 6 numbers ≡ None → AreEntries pages numbers
-entries_lawful pages numbers none =
-    let all : AreBehind pages [] numbers = entries_from pages numbers [] 6 none in
+pub entries_lawful : (least pages : ℕ) (numbers : List ℕ) → entry_fault least pages [] 6 numbers ≡ None → AreEntries least pages numbers
+entries_lawful least pages numbers none =
+    let all : AreBehind least pages [] numbers = entries_from least pages numbers [] 6 none in
     record { within = all.within; once = all.once }
 
 -- ---- and back
 
-lawful_from : (pages : ℕ) (numbers earlier : List ℕ) (at : ℕ) → All (IsEntry pages) numbers → AreOnce numbers → AreNone numbers earlier
-    → entry_fault pages earlier at numbers ≡ None
-lawful_from pages [] earlier at within once apart = refl
-lawful_from pages (n ∷ numbers) earlier at within once apart =
+lawful_from : (least pages : ℕ) (numbers earlier : List ℕ) (at : ℕ) → All (IsEntry least pages) numbers → AreOnce numbers → AreNone numbers earlier
+    → entry_fault least pages earlier at numbers ≡ None
+lawful_from least pages [] earlier at within once apart = refl
+lawful_from least pages (n ∷ numbers) earlier at within once apart =
     let rest : AreNone numbers earlier = All-tail (λ m. IsNone m earlier) n numbers apart in
-    goes_on pages at n earlier numbers
-    (entry_is pages n earlier (All-head (IsEntry pages) n numbers within) (All-head (λ m. IsNone m earlier) n numbers apart))
-    ∙ lawful_from pages numbers (earlier ++ n ∷ []) (at + 2) (All-tail (IsEntry pages) n numbers within) once.1
+    goes_on least pages at n earlier numbers
+    (entry_is least pages n earlier (All-head (IsEntry least pages) n numbers within) (All-head (λ m. IsNone m earlier) n numbers apart))
+    ∙ lawful_from least pages numbers (earlier ++ n ∷ []) (at + 2) (All-tail (IsEntry least pages) n numbers within) once.1
     (λ k d lt. All-push (λ x. x ≢ slice_index_or numbers k d) earlier n (rest k d lt) (λ e. once.0 k d lt (sym e)))
 
-pub lawful_entries : (pages : ℕ) (numbers : List ℕ) → AreEntries pages numbers → entry_fault pages [] 6 numbers ≡ None
-lawful_entries pages numbers are =
-    lawful_from pages numbers [] 6 are.within are.once (λ k d lt. All-nil (λ x. x ≢ slice_index_or numbers k d))
+pub lawful_entries : (least pages : ℕ) (numbers : List ℕ) → AreEntries least pages numbers → entry_fault least pages [] 6 numbers ≡ None
+lawful_entries least pages numbers are =
+    lawful_from least pages numbers [] 6 are.within are.once (λ k d lt. All-nil (λ x. x ≢ slice_index_or numbers k d))
 
 -- ---- place by place
 
-pub entry_at : (pages : ℕ) (numbers : List ℕ) → AreEntries pages numbers → (j : ℕ) → j < length numbers
-    → (2 ≤ slice_index numbers j) × (slice_index numbers j < pages)
-entry_at pages numbers are j lt = are.within j 0 lt
+pub entry_at : (least pages : ℕ) (numbers : List ℕ) → AreEntries least pages numbers → (j : ℕ) → j < length numbers
+    → (least ≤ slice_index numbers j) × (slice_index numbers j < pages)
+entry_at least pages numbers are j lt = are.within j 0 lt
 
 once_distinct : (numbers : List ℕ) → AreOnce numbers → (i j : ℕ) → i < j → j < length numbers → slice_index numbers i ≢ slice_index numbers j
 once_distinct [] once i j lt inside = absurd (omega arith)
@@ -123,9 +123,9 @@ once_distinct (n ∷ numbers) once i zero lt inside = absurd (omega arith)
 once_distinct (n ∷ numbers) once zero (suc j) lt inside = λ e. once.0 j 0 (omega arith) (sym e)
 once_distinct (n ∷ numbers) once (suc i) (suc j) lt inside = once_distinct numbers once.1 i j (omega arith) (omega arith)
 
-pub entries_distinct : (pages : ℕ) (numbers : List ℕ) → AreEntries pages numbers → (i j : ℕ) → i < j → j < length numbers
+pub entries_distinct : (least pages : ℕ) (numbers : List ℕ) → AreEntries least pages numbers → (i j : ℕ) → i < j → j < length numbers
     → slice_index numbers i ≢ slice_index numbers j
-entries_distinct pages numbers are = once_distinct numbers are.once
+entries_distinct least pages numbers are = once_distinct numbers are.once
 
 -- of two lists, each number of one isn't in the other, whichever comes first
 pub turned : (numbers others : List ℕ) → AreNone numbers others → AreNone others numbers
@@ -142,5 +142,5 @@ once_take zero numbers once = tt
 once_take (suc k) [] once = tt
 once_take (suc k) (n ∷ numbers) once = (All-take (λ x. x ≢ n) k numbers once.0, once_take k numbers once.1)
 
-pub entries_take : (pages k : ℕ) (numbers : List ℕ) → AreEntries pages numbers → AreEntries pages (take k numbers)
-entries_take pages k numbers are = record { within = All-take (IsEntry pages) k numbers are.within; once = once_take k numbers are.once }
+pub entries_take : (least pages k : ℕ) (numbers : List ℕ) → AreEntries least pages numbers → AreEntries least pages (take k numbers)
+entries_take least pages k numbers are = record { within = All-take (IsEntry least pages) k numbers are.within; once = once_take k numbers are.once }

@@ -91,10 +91,10 @@ dropped_gone (was ∷ old) (n ∷ numbers) (page ∷ new) fresh each count once 
 
 -- ---- all of it, of a plan with these fresh numbers
 
-pub record ArePlanned (pages : ℕ) (old : List (List ℕ)) (numbers : List ℕ) (new : List (List ℕ)) (fresh : List ℕ) : Type 0 where
-  pub named_are : AreEntries pages (numbered old numbers new fresh)
-  pub dropped_are : AreEntries pages (dropped old numbers new)
-  pub fresh_are : AreEntries pages fresh
+pub record ArePlanned (least pages : ℕ) (old : List (List ℕ)) (numbers : List ℕ) (new : List (List ℕ)) (fresh : List ℕ) : Type 0 where
+  pub named_are : AreEntries least pages (numbered old numbers new fresh)
+  pub dropped_are : AreEntries least pages (dropped old numbers new)
+  pub fresh_are : AreEntries least pages fresh
   -- no fresh number is one of the record's, and the other way round
   pub unused : AreNone fresh numbers
   pub unmet : AreNone numbers fresh
@@ -102,17 +102,17 @@ pub record ArePlanned (pages : ℕ) (old : List (List ℕ)) (numbers : List ℕ)
   pub gone : AreNone (dropped old numbers new) (numbered old numbers new fresh)
   pub kept : AreNone (numbered old numbers new fresh) (dropped old numbers new)
 
-pub fresh_plan : (pages : ℕ) (old : List (List ℕ)) (numbers : List ℕ) (new : List (List ℕ)) (fresh : List ℕ)
-    → AreEntries pages numbers → AreEntries pages fresh → AreNone fresh numbers
-    → length numbers ≡ length old → length fresh ≡ length (changed old new) → ArePlanned pages old numbers new fresh
-fresh_plan pages old numbers new fresh are fresh_are apart each count =
+pub fresh_plan : (least pages : ℕ) (old : List (List ℕ)) (numbers : List ℕ) (new : List (List ℕ)) (fresh : List ℕ)
+    → AreEntries least pages numbers → AreEntries least pages fresh → AreNone fresh numbers
+    → length numbers ≡ length old → length fresh ≡ length (changed old new) → ArePlanned least pages old numbers new fresh
+fresh_plan least pages old numbers new fresh are fresh_are apart each count =
     let away : AreNone (dropped old numbers new) (numbered old numbers new fresh) = dropped_gone old numbers new fresh each count are.once apart in
     record {
       named_are = record {
-        within = numbered_all (IsEntry pages) old numbers new fresh each count are.within fresh_are.within;
+        within = numbered_all (IsEntry least pages) old numbers new fresh each count are.within fresh_are.within;
         once = numbered_once old numbers new fresh each count are.once fresh_are.once apart;
       };
-      dropped_are = record { within = dropped_all (IsEntry pages) old numbers new are.within; once = dropped_once old numbers new are.once };
+      dropped_are = record { within = dropped_all (IsEntry least pages) old numbers new are.within; once = dropped_once old numbers new are.once };
       fresh_are = fresh_are;
       unused = apart;
       unmet = turned fresh numbers apart;
@@ -121,11 +121,11 @@ fresh_plan pages old numbers new fresh are fresh_are apart each count =
     }
 
 -- with the first free numbers
-pub plan_entries : (pages : ℕ) (old : List (List ℕ)) (numbers : List ℕ) (new : List (List ℕ))
-    → AreEntries pages numbers → length numbers ≡ length old → length (changed old new) ≤ length (free_from numbers (pages - 2) 2)
-    → ArePlanned pages old numbers new (take (length (changed old new)) (free_from numbers (pages - 2) 2))
-plan_entries pages old numbers new are each fits =
-    let free : List ℕ = free_from numbers (pages - 2) 2 in
+pub plan_entries : (least pages : ℕ) (old : List (List ℕ)) (numbers : List ℕ) (new : List (List ℕ))
+    → AreEntries least pages numbers → length numbers ≡ length old → length (changed old new) ≤ length (free_from numbers (pages - least) least)
+    → ArePlanned least pages old numbers new (take (length (changed old new)) (free_from numbers (pages - least) least))
+plan_entries least pages old numbers new are each fits =
+    let free : List ℕ = free_from numbers (pages - least) least in
     let k : ℕ = length (changed old new) in
-    fresh_plan pages old numbers new (take k free) are (entries_take pages k free (free_entries pages numbers))
-    (All-take (λ m. IsNone m numbers) k free (free_unused pages numbers)) each (length-take-le k free fits)
+    fresh_plan least pages old numbers new (take k free) are (entries_take least pages k free (free_entries least pages numbers))
+    (All-take (λ m. IsNone m numbers) k free (free_unused least pages numbers)) each (length-take-le k free fits)

@@ -30,12 +30,13 @@ abbrev pub nonzero_from : ℕ → List ℕ → Option ℕ
 nonzero_from at [] = None
 nonzero_from at (b ∷ rest) = if b == 0 then nonzero_from (at + 1) rest else Some at
 
--- the place of the first entry that is no page's number from 2 to below `pages`, or that stands among the earlier ones
-abbrev pub entry_fault : ℕ → List ℕ → ℕ → List ℕ → Option ℕ
-entry_fault pages earlier at [] = None
-entry_fault pages earlier at (n ∷ numbers) =
-    if nat_le 2 n && (nat_lt n pages && not (is_among earlier n))
-    then entry_fault pages (earlier ++ n ∷ []) (at + 2) numbers
+-- the place of the first entry that is no page's number, from `least` to below `pages`, or that stands
+-- among the earlier ones
+abbrev pub entry_fault : ℕ → ℕ → List ℕ → ℕ → List ℕ → Option ℕ
+entry_fault least pages earlier at [] = None
+entry_fault least pages earlier at (n ∷ numbers) =
+    if nat_le least n && (nat_lt n pages && not (is_among earlier n))
+    then entry_fault least pages (earlier ++ n ∷ []) (at + 2) numbers
     else Some at
 
 abbrev pub or_else : Option ℕ → Option ℕ → Option ℕ
@@ -44,9 +45,9 @@ or_else None next = next
 
 -- The first place of a table that no record's has, counted from its gate: 2 where it has more pages than `most`, then an entry, then a
 -- byte behind the entries that isn't zero.
-unfoldable pub table_fault : ℕ → ℕ → List ℕ → Option ℕ
-table_fault pages most body =
+unfoldable pub table_fault : ℕ → ℕ → ℕ → List ℕ → Option ℕ
+table_fault least pages most body =
     if nat_le (page_count (length_in body)) most
-    then or_else (entry_fault pages [] 6 (record_names body))
+    then or_else (entry_fault least pages [] 6 (record_names body))
     (nonzero_from (6 + 2 * page_count (length_in body)) (drop (5 + 2 * page_count (length_in body)) body))
     else Some 2

@@ -7,14 +7,13 @@ use Rattle.dr_ports.specs.Writing.{TookBeginning}
 use Rattle.dr_ports.specs.Wires.{Port}
 use Rattle.endings.specs.declared.ending.Ending.TheVariants.{Done}
 use Rattle.endings.proofs.Closing.{ends_cut}
-use Rattle.relay_core.specs.Record.{box_text}
 use Rattle.relay_server.specs.Durable.{IsServerReady, ServerNow}
 use Rattle.relay_command.specs.Connections.{Connection, ConnectionStanding, port_line}
 use Rattle.relay_command.specs.Serving.{HaveCome, RelayRuns, relay_lines, entry_standing, went_on}
 use Rattle.relay_command.proofs.Rounds.{SoFar, never, nothing_came, rests_as}
 
 module _ (turns : List Connection → Type 0) (none : turns []) (port count : ℕ) (server : ServerNow) (start : DiskState) (door : Port) (old : SinkState)
-    (ready : IsServerReady box_text server start) where
+    (ready : IsServerReady server start) where
   abbrev first : ConnectionStanding
   first = entry_standing server.boxes door
 

@@ -1,6 +1,5 @@
 -- One connection more.
 use Rattle.std.proofs.Common.{◌≡◌, inl, inr, ⊎_elim, ℕ, ◌+◌, List, [], ◌∷◌, ◌++◌, length, refl, sym, ◌∙◌, ap, arith, append_assoc, append-nil}
-use Rattle.relay_core.specs.Record.{box_text}
 use Rattle.relay_core.specs.Streams.{served}
 use Rattle.relay_server.specs.Serving.{Reached}
 use Rattle.relay_command.specs.declared.connecting.Connected.{Connected}
@@ -20,7 +19,7 @@ pub reached_before : (s : ConnectionStanding) (xs : List Connection) (x : Connec
 reached_before s [] x c was = absurd was
 reached_before s (y ∷ xs) x c was = ⊎_elim (λ here. inl here) (λ later. inr (reached_before (after_connection s y) xs x c later)) was
 
-pub reached_last : (s : ConnectionStanding) (xs : List Connection) (x : Connection) (c : List ℕ) → Reached box_text (behind_all s xs).boxes x.got c → WereReached s (xs ++ x ∷ []) c
+pub reached_last : (s : ConnectionStanding) (xs : List Connection) (x : Connection) (c : List ℕ) → Reached (behind_all s xs).boxes x.got c → WereReached s (xs ++ x ∷ []) c
 reached_last s [] x c is = inl is
 reached_last s (y ∷ xs) x c is = inr (reached_last (after_connection s y) xs x c is)
 

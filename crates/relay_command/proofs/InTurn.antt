@@ -3,7 +3,6 @@ use Rattle.std.proofs.Common.{◌≡◌, List, [], ◌∷◌, ◌++◌, ℕ, Res
 use Rattle.std.specs.Prelude.{option_map}
 use Rattle.dr_disk.specs.State.{DiskState}
 use Rattle.dr_ports.specs.Wires.{Port, next_of}
-use Rattle.relay_core.specs.Record.{box_text}
 use Rattle.relay_server.specs.Durable.{IsServerReady, ServerNow}
 use Rattle.relay_server.specs.Serving.{Exchanges}
 use Rattle.relay_server.specs.FrameByFrame.{IsInOrder, IsServedInOrder}
@@ -16,7 +15,7 @@ use Rattle.relay_command.specs.Serving.{entry_standing}
 
 pub own_order : {X Y : Type 0} (state : X → DiskState) (port_of : Y → Port) (start now : X) (accepted served : Y)
     (old new : ServerNow) (result : Result Ended ServeFault)
-    (s : IsServedInOrder state port_of box_text old new start now accepted served result) (x : Connection)
+    (s : IsServedInOrder state port_of old new start now accepted served result) (x : Connection)
     → (from : Port) → (port_of accepted).told ≡ option_map next_of from.told
     → x.got ≡ s.served.got → Exchanges x.got x.put (port_of accepted) (port_of served)
     → WasServed state port_of (entry_standing old.boxes from) start now x
@@ -25,7 +24,7 @@ own_order state port_of start now accepted served old new result s x from told s
   served = served;
   told = told;
   exchanges = exchanges;
-  in_order = subst (λ (got : List ℕ). IsInOrder state port_of box_text old.boxes got start now accepted served)
+  in_order = subst (λ (got : List ℕ). IsInOrder state port_of old.boxes got start now accepted served)
       (sym same) s.in_order;
 }
 
@@ -33,8 +32,8 @@ own_order state port_of start now accepted served old new result s x from told s
 pub one_in_turn : {X Y : Type 0} (state : X → DiskState) (port_of : Y → Port) (s : ConnectionStanding) (start disk next : X)
     (xs : List Connection) (x : Connection) (server : ServerNow) (from : Port)
     → CameInTurn state port_of s start xs disk → entry_standing server.boxes from ≡ behind_all s xs
-    → IsServerReady box_text server (state disk) → WasServed state port_of (entry_standing server.boxes from) disk next x
+    → IsServerReady server (state disk) → WasServed state port_of (entry_standing server.boxes from) disk next x
     → CameInTurn state port_of s start (xs ++ x ∷ []) next
 one_in_turn state port_of s start disk next xs x server from came same ready was =
-    one_came xs x disk next came (at_rest box_text (behind_all s xs).boxes server (state disk) (ap (λ (t : ConnectionStanding). t.boxes) same) ready)
+    one_came xs x disk next came (at_rest (behind_all s xs).boxes server (state disk) (ap (λ (t : ConnectionStanding). t.boxes) same) ready)
     (subst (λ (t : ConnectionStanding). WasServed state port_of t disk next x) same was)

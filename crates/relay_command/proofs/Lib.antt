@@ -1,4 +1,5 @@
 pub mod Begun
+pub mod Completing
 pub mod Connections
 pub mod InTurn
 pub mod Lifting

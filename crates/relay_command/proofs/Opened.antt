@@ -10,7 +10,6 @@ use Rattle.dr_ports.specs.declared.pipe.Part.TheVariants.{Flow}
 use Rattle.endings.specs.Ends.{Ends}
 use Rattle.endings.specs.declared.ending.Ending.{Ending}
 use Rattle.endings.specs.declared.ending.Ending.TheVariants.{DiskFault, LinkFault}
-use Rattle.relay_core.specs.Record.{box_text}
 use Rattle.relay_server.specs.Durable.{ServerNow}
 use Rattle.relay_server.specs.Filling.{IsFilling}
 use Rattle.relay_server.specs.Looking.{HasSettled}
@@ -80,7 +79,7 @@ module _ {X Y : Type 0} (state : X → DiskState) (port_of : Y → Port) (words 
         opened_runs now door runs = record {
           ending = runs.ending;
           lines = runs.lines;
-          came = was_opened names server.boxes is_opened.boxes opened moments (at_rest box_text server.boxes server (state opened) refl is_opened.ready) runs.ending runs.lines
+          came = was_opened names server.boxes is_opened.boxes opened moments (at_rest server.boxes server (state opened) refl is_opened.ready) runs.ending runs.lines
               (lift words (Turns now first) first (state start) (state opened) (state now) (port_of from) (port_of heard) (port_of door) is_opened.boxes.count moments is_opened.quiet is_heard.gate port count code runs.ending runs.lines
               (subst (λ (s : ConnectionStanding). ServesConnections never (Turns now s) s port count (state opened) (state now) (port_of heard) (port_of door) code runs.ending runs.lines) first_is runs.came));
           ends = runs.ends;

@@ -14,7 +14,6 @@ use Rattle.endings.specs.Ends.{Ends}
 use Rattle.endings.specs.declared.ending.Ending.TheVariants.{DiskFault, Done, LinkFault}
 use Rattle.endings.proofs.Closing.{ends_behind, ends_cut}
 use Rattle.relay_core.specs.Boxes.{Box}
-use Rattle.relay_core.specs.Record.{box_text}
 use Rattle.relay_server.specs.Durable.{IsServerReady, ServerNow}
 use Rattle.relay_server.specs.Places.{IsSameBehind, SameBehind}
 use Rattle.relay_server.specs.Serving.{Reached}
@@ -38,7 +37,7 @@ pub record SoFar (turns : List Connection → Type 0) (s : ConnectionStanding) (
   pub each : AreServed s xs
   pub boxes : server.boxes ≡ (behind_all s xs).boxes
   pub sized : length server.boxes ≡ length s.boxes
-  pub ready : IsServerReady box_text server now
+  pub ready : IsServerReady server now
   pub quiet : IsQuiet start now
   pub gate : door.faults Gate ≡ from.faults Gate
   pub wrote : new.taken ≡ appended old.taken (relay_lines port s xs)
@@ -57,12 +56,12 @@ still_came turns later_turns s xs start mid now door later come in_turn told fau
   during = spans start mid now _ come.during (widen mid now _ _ (λ c none. absurd none) still);
 }
 
-pub rests_as : (turns : List Connection → Type 0) (s : ConnectionStanding) (xs : List Connection) (start now : DiskState) (door : Port) (server : ServerNow) → HaveCome never turns s xs start now door → AreServed s xs → server.boxes ≡ (behind_all s xs).boxes → IsServerReady box_text server now
+pub rests_as : (turns : List Connection → Type 0) (s : ConnectionStanding) (xs : List Connection) (start now : DiskState) (door : Port) (server : ServerNow) → HaveCome never turns s xs start now door → AreServed s xs → server.boxes ≡ (behind_all s xs).boxes → IsServerReady server now
     → IsQuiet start now → WereServed never turns s xs start now door
 rests_as turns s xs start now door server come each boxes ready quiet = record {
   come = come;
   each = each;
-  rests = record { stores = server.stores; ready = subst (λ (bs : List Box). IsServerReady box_text (record { boxes = bs; stores = server.stores }) now) boxes ready };
+  rests = record { stores = server.stores; ready = subst (λ (bs : List Box). IsServerReady (record { boxes = bs; stores = server.stores }) now) boxes ready };
   quiet = quiet;
 }
 
@@ -89,7 +88,7 @@ module _ (turns : List Connection → Type 0) (s : ConnectionStanding) (port n :
       faults = turn.faults ∙ ap (λ (t : ConnectionStanding). t.faults) (sym (behind_more s so.xs x));
       during = spans start mid now _
           (widen start mid _ _ (λ c is. (⊎_elim (λ none. absurd none) (λ was. inr (reached_before s so.xs x c was)) is.0, is.1)) so.come.during)
-          (widen mid now _ _ (λ c is. (inr (reached_last s so.xs x c (subst (λ (bs : List Box). Reached box_text bs x.got c) so.boxes is.0)), outside c is.1)) turn.during);
+          (widen mid now _ _ (λ c is. (inr (reached_last s so.xs x c (subst (λ (bs : List Box). Reached bs x.got c) so.boxes is.0)), outside c is.1)) turn.during);
     }
 
     boxes_more : new.boxes ≡ (behind_all s (so.xs ++ x ∷ [])).boxes

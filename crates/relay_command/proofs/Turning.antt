@@ -7,7 +7,6 @@ use Rattle.dr_ports.specs.Ports.{Rose}
 use Rattle.dr_ports.specs.Wires.{IsAhead, Port, Told, hung_up, next_of}
 use Rattle.dr_ports.specs.declared.pipe.Part.TheVariants.{Flow, Gate}
 use Rattle.relay_core.specs.Boxes.{Box}
-use Rattle.relay_core.specs.Record.{box_text}
 use Rattle.relay_core.specs.Streams.{reply_bytes, reply_frame, served}
 use Rattle.relay_server.specs.Durable.{ServerNow}
 use Rattle.relay_server.specs.Serving.{AnswersStream, Exchanges, IsServed, LastOrBefore, exchanged}
@@ -49,7 +48,7 @@ module _ (order : Connection → Type 0) (old new : ServerNow) (start now : Disk
   abbrev Ordered : List ℕ → Type 0
   Ordered got = (x : Connection) → x.got ≡ got → Exchanges x.got x.put accepted after → order x
 
-  module _ (result : Result Ended ServeFault) (s : IsServed box_text old new accepted after start now result) (ordered : Ordered s.got) where
+  module _ (result : Result Ended ServeFault) (s : IsServed old new accepted after start now result) (ordered : Ordered s.got) where
     exchanges : (put : List ℕ) → AnswersStream old.boxes new.boxes s.got put accepted after
         → after.told ≡ option_map (exchanged s.got put) (option_map next_of from.told)
     exchanges put answers = answers.exchanges ∙ ap (option_map (exchanged s.got put)) told
@@ -70,7 +69,7 @@ module _ (order : Connection → Type 0) (old new : ServerNow) (start now : Disk
   risen later rose =
       (omega (arith, later, flow, still), subst (λ (n : ℕ). Rose (from.faults Flow) n) (sym still) (subst (λ (n : ℕ). Rose n (after.faults Flow)) flow rose))
 
-  pub turn_ended : (answered : Ended) (s : IsServed box_text old new accepted after start now (Ok answered)) → Ordered s.got → after.faults Flow ≡ accepted.faults Flow
+  pub turn_ended : (answered : Ended) (s : IsServed old new accepted after start now (Ok answered)) → Ordered s.got → after.faults Flow ≡ accepted.faults Flow
       → IsServedTurn order old new start now from door (IsEnded answered.answered)
   turn_ended answered s ordered quiet =
       let put = reply_bytes (served old.boxes s.got) in
@@ -84,7 +83,7 @@ module _ (order : Connection → Type 0) (old new : ServerNow) (start now : Disk
         quiet = s.serves.2;
       }
 
-  turn_unread : (s : IsServed box_text old new accepted after start now (Err Read)) → Ordered s.got → accepted.faults Flow ≤ after.faults Flow → IsServedTurn order old new start now from door Failed
+  turn_unread : (s : IsServed old new accepted after start now (Err Read)) → Ordered s.got → accepted.faults Flow ≤ after.faults Flow → IsServedTurn order old new start now from door Failed
   turn_unread s ordered later =
       let put = reply_bytes (served old.boxes s.got) in
       let turn = turn_of (Err Read) s ordered put failed s.serves.0 in
@@ -98,7 +97,7 @@ module _ (order : Connection → Type 0) (old new : ServerNow) (start now : Disk
         quiet = s.serves.2;
       }
 
-  turn_unsent : (s : IsServed box_text old new accepted after start now (Err Write)) → Ordered s.got → accepted.faults Flow ≤ after.faults Flow → IsServedTurn order old new start now from door Failed
+  turn_unsent : (s : IsServed old new accepted after start now (Err Write)) → Ordered s.got → accepted.faults Flow ≤ after.faults Flow → IsServedTurn order old new start now from door Failed
   turn_unsent s ordered later =
       let turn = turn_of (Err Write) s ordered s.serves.0 failed s.serves.2 in
       let some : IsBeginning s.serves.0 (reply_bytes (served old.boxes s.got)) = (s.serves.1, s.serves.3) in
@@ -111,19 +110,19 @@ module _ (order : Connection → Type 0) (old new : ServerNow) (start now : Disk
         quiet = s.serves.5;
       }
 
-  turn_stopped : (call : Call) → (s : IsServed box_text old new accepted after start now (Err (Store call))) → Ordered s.got → accepted.faults Flow ≤ after.faults Flow → IsStoppedTurn order old new start now from door
+  turn_stopped : (call : Call) → (s : IsServed old new accepted after start now (Err (Store call))) → Ordered s.got → accepted.faults Flow ≤ after.faults Flow → IsStoppedTurn order old new start now from door
   turn_stopped call s ordered later =
       let turn = turn_of (Err (Store call)) s ordered s.serves.0 stopped s.serves.2 in
       let some : IsBeginning s.serves.0 (reply_bytes (served old.boxes s.got)) = (reply_frame s.serves.1, s.serves.3) in
       record {
         x = connection s.got s.serves.0 stopped;
         turn = turn;
-        stopped = record { last = s.serves.1; replies = s.serves.3; begun = begun_of from.told after.told old.boxes s.got s.serves.0 (exchanges (Err (Store call)) s ordered s.serves.0 s.serves.2) some ahead; stands = subst (λ (bs : List Box). LastOrBefore box_text old.boxes bs s.got now) s.serves.2.next_is s.serves.5; later = omega (arith, later, flow, still) };
+        stopped = record { last = s.serves.1; replies = s.serves.3; begun = begun_of from.told after.told old.boxes s.got s.serves.0 (exchanges (Err (Store call)) s ordered s.serves.0 s.serves.2) some ahead; stands = subst (λ (bs : List Box). LastOrBefore old.boxes bs s.got now) s.serves.2.next_is s.serves.5; later = omega (arith, later, flow, still) };
         call = call;
         rose = s.serves.4;
       }
 
-  pub turn_broken : (fault : ServeFault) → (s : IsServed box_text old new accepted after start now (Err fault)) → Ordered s.got → accepted.faults Flow ≤ after.faults Flow → Turns order old new start now from door (broken_as fault)
+  pub turn_broken : (fault : ServeFault) → (s : IsServed old new accepted after start now (Err fault)) → Ordered s.got → accepted.faults Flow ≤ after.faults Flow → Turns order old new start now from door (broken_as fault)
   turn_broken Read s ordered later = turn_unread s ordered later
   turn_broken Write s ordered later = turn_unsent s ordered later
   turn_broken (Store call) s ordered later = turn_stopped call s ordered later

@@ -4,7 +4,6 @@ use Rattle.dr_ports.specs.Ports.{Rose}
 use Rattle.dr_ports.specs.declared.pipe.Part.TheVariants.{Flow, Gate}
 use Rattle.dr_ports.specs.Wires.{Port, Told, hung_up, listens_at, next_of}
 use Rattle.relay_core.specs.Boxes.{Box}
-use Rattle.relay_core.specs.Record.{box_text}
 use Rattle.relay_core.specs.Streams.{reply_bytes, served}
 use Rattle.relay_server.specs.Serving.{Reached, exchanged}
 
@@ -106,4 +105,4 @@ lines_behind i s (x ∷ xs) = connection_line (i + 1) (length (served s.boxes x.
 -- bytes that stand for the boxes after a beginning of the frames of one of these connections
 abbrev pub WereReached : ConnectionStanding → List Connection → List ℕ → Type 0
 WereReached s [] c = ⊥
-WereReached s (x ∷ xs) c = Reached box_text s.boxes x.got c ⊎ WereReached (after_connection s x) xs c
+WereReached s (x ∷ xs) c = Reached s.boxes x.got c ⊎ WereReached (after_connection s x) xs c

@@ -4,7 +4,6 @@ use Rattle.std.specs.Prelude.{◌≡◌, List, [], ◌∷◌, ◌++◌, ℕ, opt
 use Rattle.dr_disk.specs.Spans.{Span}
 use Rattle.dr_disk.specs.State.{DiskState}
 use Rattle.dr_ports.specs.Wires.{Port, next_of}
-use Rattle.relay_core.specs.Record.{box_text}
 use Rattle.relay_server.specs.Serving.{Exchanges}
 use Rattle.relay_server.specs.FrameByFrame.{IsServerAtRest, IsInOrder, IsMoment}
 use Rattle.relay_command.specs.Connections.{Connection, ConnectionStanding, behind_all}
@@ -17,14 +16,14 @@ pub record WasServed {X Y : Type 0} (state : X → DiskState) (port_of : Y → P
   pub served : Y
   pub told : (port_of accepted).told ≡ option_map next_of s.told
   pub exchanges : Exchanges x.got x.put (port_of accepted) (port_of served)
-  pub in_order : IsInOrder state port_of box_text s.boxes x.got start now accepted served
+  pub in_order : IsInOrder state port_of s.boxes x.got start now accepted served
 
 -- These connections came in turn: before each the disk is at rest for the boxes that those before it left.
 pub data CameInTurn {X Y : Type 0} (state : X → DiskState) (port_of : Y → Port) (s : ConnectionStanding) (start : X)
     : List Connection → X → Type 0 where
   none_came : CameInTurn state port_of s start [] start
   one_came : (xs : List Connection) (x : Connection) (disk next : X)
-      → CameInTurn state port_of s start xs disk → IsServerAtRest box_text (behind_all s xs).boxes (state disk)
+      → CameInTurn state port_of s start xs disk → IsServerAtRest (behind_all s xs).boxes (state disk)
       → WasServed state port_of (behind_all s xs) disk next x
       → CameInTurn state port_of s start (xs ++ x ∷ []) next
   -- nothing new could be left meanwhile
@@ -38,4 +37,4 @@ pub record WasLeftIn {X Y : Type 0} (state : X → DiskState) (port_of : Y → P
   pub disk : X
   pub accepted : Y
   pub came : CameInTurn state port_of s start xs disk
-  pub moment : IsMoment state port_of box_text (behind_all s xs).boxes disk accepted frames c
+  pub moment : IsMoment state port_of (behind_all s xs).boxes disk accepted frames c

@@ -5,3 +5,4 @@ pub mod Serving
 pub mod Turns
 pub mod Relaying
 pub mod Limits
+pub mod Completing

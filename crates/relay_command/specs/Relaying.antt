@@ -16,7 +16,6 @@ use Rattle.relay_server.specs.Looking.{IsLooked}
 use Rattle.relay_server.specs.Opening.{AreBoxesRead, IsOpening, IsServerUnopened}
 use Rattle.relay_server.specs.declared.errors.ServerOpenError.{ServerOpenError}
 use Rattle.relay_server.specs.declared.errors.ServerOpenError.TheVariants.{BoxName, Damaged, Memory, StoreFault}
-use Rattle.relay_core.specs.Record.{box_text}
 use Rattle.relay_server.specs.FrameByFrame.{IsServerAtRest}
 use Rattle.relay_command.specs.Connections.{IsHeard, CouldNotListen, listening}
 use Rattle.relay_command.specs.InTurn.{CameInTurn}
@@ -58,7 +57,7 @@ pub data Relays {X Y : Type 0} (state : X → DiskState) (port_of : Y → Port) 
       → Relays state port_of words port count start now from door code DiskFault []
   -- the boxes that were read are served, from the disk on that the opening left
   was_opened : AreNames words → (boxes : List Box) → AreBoxesRead words boxes (state start) → (opened : X)
-      → Span (state start) (state opened) (IsOpening words (state start)) → IsServerAtRest box_text boxes (state opened)
+      → Span (state start) (state opened) (IsOpening words (state start)) → IsServerAtRest boxes (state opened)
       → (ending : Ending) (lines : List ℕ)
       → ServesConnections (IsOpening words (state start)) (λ xs. CameInTurn state port_of (listening port (entry_standing boxes (port_of from))) opened xs now)
       (listening port (entry_standing boxes (port_of from))) port count (state start) (state now) (port_of from) (port_of door) code ending lines

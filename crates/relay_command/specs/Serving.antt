@@ -11,7 +11,6 @@ use Rattle.endings.specs.Ends.{Ends}
 use Rattle.endings.specs.declared.ending.Ending.{Ending}
 use Rattle.endings.specs.declared.ending.Ending.TheVariants.{DiskFault, Done, LinkFault}
 use Rattle.relay_core.specs.Boxes.{Box}
-use Rattle.relay_core.specs.Record.{box_text}
 use Rattle.relay_core.specs.Streams.{Exchange, reply_bytes, reply_frame, served}
 use Rattle.relay_server.specs.Places.{IsSameBehind}
 use Rattle.relay_server.specs.FrameByFrame.{IsServerAtRest}
@@ -36,7 +35,7 @@ pub record WereServed (earlier : List ℕ → Type 0) (turns : List Connection �
     (start now : DiskState) (door : Port) : Type 0 where
   pub come : HaveCome earlier turns s xs start now door
   pub each : AreServed s xs
-  pub rests : IsServerAtRest box_text (behind_all s xs).boxes now
+  pub rests : IsServerAtRest (behind_all s xs).boxes now
   pub quiet : IsQuiet start now
 
 -- A call on the disk failed in a connection: less was sent than the replies to what came, by the last one, and each image
@@ -45,7 +44,7 @@ pub record IsConnectionStopped (s : ConnectionStanding) (x : Connection) (now : 
   pub last : Exchange
   pub replies : reply_bytes (served s.boxes x.got) ≡ x.put ++ reply_frame last
   pub begun : IsBegun s x
-  pub stands : LastOrBefore box_text s.boxes (served s.boxes x.got).next x.got now
+  pub stands : LastOrBefore s.boxes (served s.boxes x.got).next x.got now
   pub later : s.faults ≤ x.faults
 
 abbrev pub relay_lines : ℕ → ConnectionStanding → List Connection → List ℕ

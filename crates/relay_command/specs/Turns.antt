@@ -8,7 +8,6 @@ use Rattle.dr_ports.specs.Wires.{Port}
 use Rattle.dr_ports.specs.declared.pipe.Part.TheVariants.{Flow, Gate}
 use Rattle.endings.specs.declared.ending.Ending.{Ending as Closing}
 use Rattle.endings.specs.declared.ending.Ending.TheVariants.{DiskFault, LinkFault}
-use Rattle.relay_core.specs.Record.{box_text}
 use Rattle.relay_core.specs.Streams.{served}
 use Rattle.relay_server.specs.Durable.{IsServerReady, ServerNow}
 use Rattle.relay_server.specs.Places.{IsSameBehind}
@@ -40,7 +39,7 @@ pub record IsTurn (order : Connection → Type 0) (old new : ServerNow) (start n
   pub next : new.boxes ≡ (served old.boxes x.got).next
   pub count : length new.boxes ≡ length old.boxes
   pub in_order : order x
-  pub during : Span start now (λ c. Reached box_text old.boxes x.got c × IsSameBehind (length old.boxes) start c)
+  pub during : Span start now (λ c. Reached old.boxes x.got c × IsSameBehind (length old.boxes) start c)
 
 -- and it was served
 pub record IsServedTurn (order : Connection → Type 0) (old new : ServerNow) (start now : DiskState) (from door : Port) (connected : Connected) : Type 0 where
@@ -48,7 +47,7 @@ pub record IsServedTurn (order : Connection → Type 0) (old new : ServerNow) (s
   pub turn : IsTurn order old new start now from door x
   pub sent : SentReplies (entry_standing old.boxes from) x x.went
   pub how : IsConnected (entry_standing old.boxes from) x connected
-  pub ready : IsServerReady box_text new now
+  pub ready : IsServerReady new now
   pub quiet : IsQuiet start now
 
 -- a call on the disk failed meanwhile
@@ -65,7 +64,7 @@ pub record IsNoTurn (old new : ServerNow) (start now : DiskState) (from door : P
   pub faults : door.faults Flow ≡ from.faults Flow
   pub rose : HasRisen (from.faults Gate) (door.faults Gate)
   pub next : new.boxes ≡ old.boxes
-  pub ready : IsServerReady box_text new now
+  pub ready : IsServerReady new now
   pub still : Span start now (λ c. ⊥)
   pub quiet : IsQuiet start now
 

@@ -1,7 +1,6 @@
 //! One connection of a relay.
 
 ghost use Rattle.std.specs.Prelude.{◌≡◌};
-ghost use Rattle.relay_core.specs.Record.{box_text};
 ghost use Rattle.relay_server.specs.Durable.{IsServerReady};
 ghost use Rattle.relay_command.specs.InTurn.{WasServed};
 ghost use Rattle.relay_command.specs.Serving.{entry_standing};
@@ -46,7 +45,7 @@ pub(crate) fn serve_next<A: Disk, L: Door>(
     disk: &mut A,
     door: &mut L,
 ) -> Result<Connected, Fault>
-    requires { IsServerReady box_text server.old (A.state disk.old) }
+    requires { IsServerReady server.old (A.state disk.old) }
     ensures { Turns (WasServed A.state L.port
         (entry_standing server.old.boxes (L.port door.old)) disk.old disk.new)
         server.old server.new (A.state disk.old) (A.state disk.new) (L.port door.old)

@@ -2,9 +2,11 @@
 //! one connection after the other, with a line for each.
 #![tactic(auto)]
 
-pub use law::{crashes, limits_in_numbers};
 pub use relay_server::HALF_SIZE;
 pub use relaying::{RELAY_DISK_SIZE, relay};
+
+// Laws: functions without code.
+pub use law::{complete, crashes, limits_in_numbers};
 
 mod connecting;
 mod law;

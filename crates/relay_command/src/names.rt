@@ -3,11 +3,12 @@
 ghost use Rattle.std.specs.Prelude.{◌≡◌, ◌≤◌, length, map, IfErr, IfOk, OnOk};
 ghost use Rattle.std.specs.List.{list_any};
 ghost use Rattle.std.specs.Str.{bytes_eq};
+ghost use Rattle.relay_core.specs.Specs.{names_of};
 ghost use Rattle.relay_core.specs.declared.limits.TheConstants.{RELAY_LIMIT};
 ghost use Rattle.relay_wire.specs.Names.{is_name};
 ghost use Rattle.relay_command.specs.Names.{AreNames, IsFirstBad, is_box_name};
 
-use relay_core::RELAY_LIMIT;
+use relay_core::{BoxSpec, RELAY_LIMIT};
 use relay_wire::Name;
 use std::alloc::{AllocError, Global};
 
@@ -52,17 +53,17 @@ pub(crate) fn check_names(words: &[&str]) -> Result<(), u32>
     Ok(())
 }
 
-/// The names that these words are.
-pub(crate) fn names_of(alloc: Global, words: &[&str]) -> Result<Vec<Name>, AllocError>
+/// What the boxes of these names are made by.
+pub(crate) fn specs_of(alloc: Global, words: &[&str]) -> Result<Vec<BoxSpec>, AllocError>
     requires { AreNames (map (λ w. w.now) words.now) }
-    ensures { IfOk result (λ names. names.items ≡ map (λ w. w.now) words.now) }
+    ensures { IfOk result (λ specs. names_of specs.items ≡ map (λ w. w.now) words.now) }
 {
-    let mut names = Vec::new(alloc);
+    let mut specs = Vec::new(alloc);
     'words: for word in words {
         match Name::new(word.as_bytes()) {
-            Some(name) => names.push(name)?,
+            Some(name) => specs.push(BoxSpec { name })?,
             None => unreachable!(),
         }
     }
-    Ok(names)
+    Ok(specs)
 }

@@ -10,7 +10,7 @@ ghost use Rattle.relay_command.specs.Names.{AreNames};
 ghost use Rattle.relay_command.specs.Relaying.{Looks, RunsRelay, ending_after_look};
 ghost use Rattle.relay_command.specs.declared.relaying.TheConstants.{RELAY_DISK_SIZE};
 
-use crate::names::{check_names, names_of};
+use crate::names::{check_names, specs_of};
 use crate::serving::serve_all;
 use dr_disk::Disk;
 use dr_ports::{Door, Failed, Sink};
@@ -43,10 +43,10 @@ fn look<A: Disk>(alloc: Global, boxes: &[&str], disk: &mut A) -> Result<Looked, 
     ensures { Looks (map (λ word. word.now) boxes.now) (A.state disk.old)
         (A.state disk.new) result }
 {
-    let Ok(names) = names_of(alloc, boxes) else {
+    let Ok(specs) = specs_of(alloc, boxes) else {
         return Err(Ending::NoMemory);
     };
-    match Server::look(alloc, disk, names.as_slice()) {
+    match Server::look(alloc, disk, specs.as_slice()) {
         Err(error) => Err(unopened(error)),
         Ok(looked) => Ok(looked),
     }

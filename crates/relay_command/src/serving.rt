@@ -1,7 +1,6 @@
 //! A relay that listens serves its connections.
 
 ghost use Rattle.std.specs.Prelude.{◌≡◌, ◌≤◌};
-ghost use Rattle.relay_core.specs.Record.{box_text};
 ghost use Rattle.relay_server.specs.Durable.{IsServerReady};
 ghost use Rattle.relay_command.specs.InTurn.{CameInTurn};
 ghost use Rattle.relay_command.specs.Serving.{RelayRuns, entry_standing};
@@ -34,7 +33,7 @@ pub(crate) fn serve_all<A: Disk, L: Door, O: Sink>(
     door: &mut L,
     out: &mut O,
 ) -> Status
-    requires { IsServerReady box_text server.old (A.state disk.old) }
+    requires { IsServerReady server.old (A.state disk.old) }
     ensures runs { RelayRuns (λ xs. CameInTurn A.state L.port
         (entry_standing server.old.boxes (L.port door.old)) disk.old xs disk.new)
         (entry_standing server.old.boxes (L.port door.old)) port count (A.state disk.old)

@@ -16,7 +16,10 @@ use Rattle.grammar.proofs.Whole.{whole_grammar}
 use Rattle.relay_core.specs.declared.limits.TheConstants.{BOX_LIMIT, BOX_ITEM_LIMIT, RECORD_LIMIT}
 use Rattle.relay_core.specs.Boxes.{Kept, Box}
 use Rattle.relay_core.specs.Lawful.{Rises, last_number, IsLawfulBox}
-use Rattle.relay_core.specs.Record.{HeadParts, is_version, is_name_size, is_count, name_field, head_fields, is_kept_number, is_packet_size, packet_field, kept_packet_of, kept_packet_field, next_kept, box_of_parts, box_fields, box_read, head_text, kept_packet_text, box_text}
+use Rattle.relay_core.specs.Record.{HeadParts, is_name_size, is_count, name_field, head_fields, is_kept_number, is_packet_size, packet_field, kept_packet_of, kept_packet_field, next_kept, box_of_parts, box_fields, box_read, head_text, kept_packet_text, box_text}
+use Rattle.relay_core.specs.Versions.{is_version, newest, version_at, version_code, version_field}
+use Rattle.relay_core.specs.declared.versions.Version.{Version}
+use Rattle.relay_core.specs.declared.versions.Version.TheVariants.{One}
 use Rattle.relay_core.proofs.Rising.{rises-append, rises-at}
 use Rattle.relay_wire.specs.declared.limits.TheConstants.{NAME_LIMIT, PACKET_LIMIT}
 use Rattle.relay_wire.specs.Names.{is_name, is_packet}
@@ -88,10 +91,22 @@ items_of box lawful =
 -- ---- the record
 
 parts_of : Box → HeadParts × List Kept
-parts_of box = ((1, (box.name, (box.last, length box.packets))), box.packets)
+parts_of box = ((newest, (box.name, (box.last, length box.packets))), box.packets)
 
-is_one : (n : ℕ) → is_version n ≡ true → 1 ≡ n
-is_one n passes = grind (arith, nat_tests)
+version_lawful : (n : ℕ) → is_version n ≡ true → version_code (version_at n) ≡ n
+version_lawful n passes = grind (arith, nat_tests)
+
+code_lawful : (version : Version) → ((version_code version < 2 ^ 8) × (is_version (version_code version) ≡ true)) × (version_at (version_code version) ≡ version)
+code_lawful One = ((omega arith, refl), refl)
+
+version_grammar : IsGrammar (λ version. to_be_bytes w8 (version_code version)) (λ version. Unit {0}) version_field
+unfolding version_field
+version_grammar =
+    mapped_grammar (to_be_bytes w8) _ _ (checked_grammar _ _ _ (number_grammar w8 (2 ^ 8) exact8) is_version) (λ version. Unit {0}) version_at version_code
+    (λ n lawful. (tt, version_lawful n lawful.1)) (λ version lawful. code_lawful version)
+
+is_newest : (version : Version) → newest ≡ version
+is_newest One = refl
 
 few : (n m : ℕ) → n ≡ m → is_count m ≡ true → n ≤ BOX_LIMIT
 few n m same passes = grind (arith, nat_tests)
@@ -104,7 +119,7 @@ unfolding box_fields head_fields name_field box_text parts_of
 box_grammar =
     mapped_grammar _ _ _
     (both_grammar _ _ _ _ _ _
-    (both_grammar _ _ _ _ _ _ (checked_grammar _ _ _ (number_grammar w8 (2 ^ 8) exact8) is_version) (λ _ _.
+    (both_grammar _ _ _ _ _ _ version_grammar (λ _ _.
     both_grammar _ _ _ _ _ _ (sized_grammar w8 (2 ^ 8) exact8 is_name_size is_name) (λ _ _.
     both_grammar _ _ _ _ _ _ (number_grammar w64 (2 ^ 64) exact64) (λ _ _.
     checked_grammar _ _ _ (number_grammar w8 (2 ^ 8) exact8) is_count))))
@@ -120,12 +135,11 @@ box_grammar =
         rises = rise.0;
         packets = rise.1;
       },
-      ap₂ (λ (v n : ℕ). ((v, (e.0.1.0, (e.0.1.1.0, n))), e.1)) (is_one e.0.0 lawful.0.0.1) long,
+      ap₂ (λ (v : Version) (n : ℕ). ((v, (e.0.1.0, (e.0.1.1.0, n))), e.1)) (is_newest e.0.0) long,
     ))
     (λ box lawful.
-    let one : 1 < 2 ^ 8 = omega arith in
     let count = counted (length box.packets) lawful.count in
-    ((((one, refl), ((short_name box.name lawful.named, lawful.named), (lawful.numbered, count))), items_of box lawful), refl))
+    (((tt, ((short_name box.name lawful.named, lawful.named), (lawful.numbered, count))), items_of box lawful), refl))
 
 pub record_grammar : IsWholeGrammar box_text IsLawfulBox box_read
 unfolding box_read
@@ -158,7 +172,7 @@ record_size box lawful =
     let name = short_box_name box.name lawful.named in
     let packets = packets_size box.packets lawful.packets in
     let count = lawful.count in
-    let head = head_text box.name box.last (length box.packets) in
+    let head = head_text newest box.name box.last (length box.packets) in
     let behind_name = to_be_bytes w64 box.last ++ to_be_bytes w8 (length box.packets) in
     omega (arith, name, packets, count, length-append head (print_items kept_packet_text box.packets), length-append box.name behind_name)
 

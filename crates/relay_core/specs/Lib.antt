@@ -1,6 +1,8 @@
 pub mod Boxes
 pub mod Alone
 pub mod Lawful
+pub mod Specs
+pub mod Versions
 pub mod Record
 pub mod Streams
 pub mod Changes

@@ -1,6 +1,6 @@
--- The record of a box: version 01 (1 byte), the name after its length (1), the last number (8), the count of packets (1);
+-- The record of a box: its version (1 byte), the name after its length (1), the last number (8), the count of packets (1);
 -- then for each packet its number (8), and the packet after its length (2).
-use Rattle.std.specs.Prelude.{ℕ, ◌+◌, ◌≤◌, ◌==◌, ◌&&◌, Bool, nat_le, nat_lt, List, ◌++◌, length, Result, Ok, Err}
+use Rattle.std.specs.Prelude.{◌≡◌, ℕ, ◌+◌, ◌≤◌, ◌&&◌, Bool, nat_le, nat_lt, List, ◌++◌, length, Result, Ok, Err}
 use Rattle.std.specs.Int.{w8, w16, w64, to_be_bytes}
 use Rattle.grammar.specs.Reader.{Reader, number, checked, mapped, both, sized, items, whole}
 use Rattle.grammar.specs.Standing.{Standing}
@@ -9,16 +9,15 @@ use Rattle.relay_core.specs.declared.reading.Head.{Head}
 use Rattle.relay_core.specs.declared.limits.TheConstants.{BOX_LIMIT}
 use Rattle.relay_core.specs.Boxes.{Kept, Box}
 use Rattle.relay_core.specs.Lawful.{last_number}
+use Rattle.relay_core.specs.Versions.{newest, version_code, version_field}
+use Rattle.relay_core.specs.declared.versions.Version.{Version}
 use Rattle.relay_wire.specs.declared.limits.TheConstants.{NAME_LIMIT, PACKET_LIMIT}
 use Rattle.relay_wire.specs.Names.{is_name, is_packet}
 
 -- ---- what stands before the packets
 
 abbrev pub HeadParts : Type 0
-HeadParts = ℕ × (List ℕ × (ℕ × ℕ))
-
-abbrev pub is_version : ℕ → Bool
-is_version n = n == 1
+HeadParts = Version × (List ℕ × (ℕ × ℕ))
 
 abbrev pub is_name_size : ℕ → Bool
 is_name_size n = nat_le 1 n && nat_le n NAME_LIMIT
@@ -32,7 +31,7 @@ name_field = sized w8 is_name_size is_name
 -- version, name, last number, count of packets
 unfoldable pub head_fields : Reader HeadParts
 head_fields =
-    both (checked is_version (number w8)) (λ _.
+    both version_field (λ _.
     both name_field (λ _.
     both (number w64) (λ _.
     checked is_count (number w8))))
@@ -70,22 +69,26 @@ box_fields = mapped box_of_parts (both head_fields (λ h. items (next_kept h.1.1
 unfoldable pub box_read : List ℕ → Result Box ℕ
 box_read = whole box_fields
 
+-- a text is a record of this box
+abbrev pub IsRecordOf : Box → List ℕ → Type 0
+IsRecordOf box text = box_read text ≡ Ok box
+
 -- ---- printed
 
-abbrev pub head_text : List ℕ → ℕ → ℕ → List ℕ
-head_text name last count = to_be_bytes w8 1 ++ (print_sized w8 name ++ (to_be_bytes w64 last ++ to_be_bytes w8 count))
+abbrev pub head_text : Version → List ℕ → ℕ → ℕ → List ℕ
+head_text version name last count = to_be_bytes w8 (version_code version) ++ (print_sized w8 name ++ (to_be_bytes w64 last ++ to_be_bytes w8 count))
 
 abbrev pub kept_packet_text : Kept → List ℕ
 kept_packet_text kept = to_be_bytes w64 kept.number ++ print_sized w16 kept.packet
 
 unfoldable pub box_text : Box → List ℕ
-box_text box = head_text box.name box.last (length box.packets) ++ print_items kept_packet_text box.packets
+box_text box = head_text newest box.name box.last (length box.packets) ++ print_items kept_packet_text box.packets
 
 -- ---- what code read
 
 -- what stands before the packets, as it was lent
 abbrev pub head_seen : Head → HeadParts
-head_seen head = (1, (head.name.now, (head.last, head.count)))
+head_seen head = (head.version, (head.name.now, (head.last, head.count)))
 
 -- reading went on by at most this many bytes, and so did a fault
 abbrev pub EndsWithin : {X : Type 0} → ℕ → Standing → Standing → Result X ℕ → Type 0

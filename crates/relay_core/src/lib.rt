@@ -9,7 +9,7 @@
 //! use relay_core::Relay;
 //! use relay_wire::{Packet, Request};
 //!
-//! let mut relay = Relay::new(alloc, &names)?;
+//! let mut relay = Relay::new(alloc, &specs)?;
 //! // Stored(1) as a frame in `out`, and the place of the box that changed
 //! let (len, changed) = relay.answer(&Request::post(name.lent(), packet), &mut out);
 //! ```
@@ -17,10 +17,14 @@
 
 pub use answering::{Answered, answer_frame};
 pub use checking::check_box;
-pub use law::{changes, isolation, lawfulness, records};
-pub use limits::{BOX_LIMIT, EXCHANGE_LIMIT, RECORD_LIMIT, RELAY_LIMIT, limits_in_numbers};
+pub use limits::{BOX_LIMIT, EXCHANGE_LIMIT, RECORD_LIMIT, RELAY_LIMIT};
 pub use loading::Loaded;
 pub use relay::Relay;
+pub use spec::BoxSpec;
+
+// Laws: functions without code.
+pub use law::{changes, isolation, lawfulness, records};
+pub use limits::limits_in_numbers;
 
 mod answering;
 mod checking;
@@ -32,4 +36,6 @@ mod mailbox;
 mod reading;
 mod relay;
 mod rooms;
+mod spec;
+mod versions;
 mod writing;

@@ -4,17 +4,19 @@ ghost use Rattle.std.specs.Prelude.{◌≡◌, ◌≤◌, length, map, All, IfOk
 ghost use Rattle.dr_base.specs.Buffer.{Puts};
 ghost use Rattle.relay_core.specs.Boxes.{IsPlaced, answers_of, empty_box};
 ghost use Rattle.relay_core.specs.Lawful.{IsLawfulBox};
+ghost use Rattle.relay_core.specs.Specs.{names_of};
 ghost use Rattle.relay_wire.specs.Frames.{framed};
 ghost use Rattle.relay_wire.specs.Replies.{reply_body};
 ghost use Rattle.relay_wire.specs.Seen.{asked_of};
 ghost use Rattle.relay_wire.specs.declared.limits.TheConstants.{FRAME_LIMIT};
 
 use crate::mailbox::Mailbox;
-use relay_wire::{Name, Reply, Request, write_reply};
+use crate::spec::BoxSpec;
+use relay_wire::{Reply, Request, write_reply};
 use std::alloc::{AllocError, Global};
 use std::marker::Model;
 
-/// The boxes of a relay, in the order of the names that it was made with. A contract sees the list
+/// The boxes of a relay, in the order of the specs that it was made by. A contract sees the list
 /// of them.
 ///
 /// Each has room for `BOX_LIMIT` packets of `PACKET_LIMIT` bytes, taken when the relay is made.
@@ -33,14 +35,14 @@ impl Model for Relay {
 }
 
 impl Relay {
-    /// Empty boxes of these names, with all the memory that they will ever use. A relay has up to
-    /// `RELAY_LIMIT`, no two alike.
-    pub fn new(alloc: Global, names: &[Name]) -> Result<Relay, AllocError>
-        ensures { IfOk result (λ relay. relay ≡ map empty_box names.now) }
+    /// Empty boxes by these specs, with all the memory that they will ever use. A relay has up to
+    /// `RELAY_LIMIT`, no two of one name.
+    pub fn new(alloc: Global, specs: &[BoxSpec]) -> Result<Relay, AllocError>
+        ensures { IfOk result (λ relay. relay ≡ map empty_box (names_of specs.now)) }
     {
         let mut boxes = Vec::new(alloc);
-        for name in names {
-            boxes.push(Mailbox::new(alloc, name.copied())?)?;
+        for spec in specs {
+            boxes.push(Mailbox::new(alloc, spec.name.copied())?)?;
         }
         Ok(Relay { boxes })
     }

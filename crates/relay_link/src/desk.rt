@@ -2,13 +2,14 @@
 
 ghost use Rattle.std.specs.Prelude.{◌≡◌, ◌+◌, ◌*◌, ◌≤◌, ◌<◌, [], ◌++◌, length, map, nat_lt, take, IfOk};
 ghost use Rattle.relay_core.specs.Boxes.{empty_box};
+ghost use Rattle.relay_core.specs.Specs.{names_of};
 ghost use Rattle.relay_core.specs.declared.limits.TheConstants.{EXCHANGE_LIMIT};
 ghost use Rattle.relay_link.specs.Desks.{HasAnswered, after_frame, fresh_desk};
 ghost use Rattle.relay_link.specs.declared.limits.TheConstants.{REPLY_LIMIT};
 
 use crate::limits::REPLY_LIMIT;
-use relay_core::{EXCHANGE_LIMIT, Relay, answer_frame};
-use relay_wire::{FRAME_LIMIT, Frame, FrameReader, Name};
+use relay_core::{BoxSpec, EXCHANGE_LIMIT, Relay, answer_frame};
+use relay_wire::{FRAME_LIMIT, Frame, FrameReader};
 use std::alloc::{AllocError, Global};
 use std::marker::Model;
 
@@ -39,13 +40,13 @@ impl Model for Desk {
 }
 
 impl Desk {
-    /// The desk of a relay with empty boxes of these names, before its first connection's first
+    /// The desk of a relay with empty boxes by these specs, before its first connection's first
     /// frame.
-    pub(crate) fn new(alloc: Global, names: &[Name]) -> Result<Desk, AllocError>
-        ensures { IfOk result (λ desk. desk ≡ fresh_desk REPLY_LIMIT (map empty_box names.now)) }
+    pub(crate) fn new(alloc: Global, specs: &[BoxSpec]) -> Result<Desk, AllocError>
+        ensures { IfOk result (λ desk. desk ≡ fresh_desk REPLY_LIMIT (map empty_box (names_of specs.now))) }
     {
         Ok(Desk {
-            relay: Relay::new(alloc, names)?,
+            relay: Relay::new(alloc, specs)?,
             replies: Vec::with_capacity(alloc, REPLY_LIMIT * FRAME_LIMIT)?,
             kept: REPLY_LIMIT,
             answered: 0,

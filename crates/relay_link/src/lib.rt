@@ -7,7 +7,7 @@
 //! ```rust
 //! use relay_link::RelayLink;
 //!
-//! let mut link = RelayLink::new(alloc, &names)?;
+//! let mut link = RelayLink::new(alloc, &specs)?;
 //! link.connect(Some(2)); // the second request is answered, and its reply lost
 //! ```
 #![tactic(auto)]

@@ -3,6 +3,7 @@
 ghost use Rattle.std.specs.Prelude.{◌≡◌, ◌↔◌, ◌-◌, ◌≤◌, min, length, map, IfOk, IsErr};
 ghost use Rattle.dr_ports.specs.Calls.{Receives, Sends};
 ghost use Rattle.relay_core.specs.Boxes.{empty_box};
+ghost use Rattle.relay_core.specs.Specs.{names_of};
 ghost use Rattle.relay_link.specs.Connections.{Behind, HasLost, IsLawfulConnection, behind_of, boxes_now, replies_coming, fresh_connection, connection_is_ahead, kept_before, connection_port};
 ghost use Rattle.relay_link.specs.declared.limits.TheConstants.{REPLY_LIMIT, SENT_LIMIT};
 
@@ -10,8 +11,8 @@ use crate::desk::Desk;
 use crate::limits::{REPLY_LIMIT, SENT_LIMIT};
 use dr_base::put;
 use dr_ports::{Failed, Pipe};
-use relay_core::Relay;
-use relay_wire::{FrameReader, Name};
+use relay_core::{BoxSpec, Relay};
+use relay_wire::FrameReader;
 use std::alloc::{AllocError, Global};
 use std::marker::Model;
 use std::snapshot::Snapshot;
@@ -58,12 +59,12 @@ fn kept_before(lost: Option<u32>) -> usize
 }
 
 impl RelayLink {
-    /// A link to a relay with empty boxes of these names, on which no reply is lost. A relay has up
-    /// to 16, no two alike.
-    pub fn new(alloc: Global, names: &[Name]) -> Result<RelayLink, AllocError>
-        ensures { IfOk result (λ link. link ≡ fresh_connection REPLY_LIMIT (map empty_box names.now)) }
+    /// A link to a relay with empty boxes by these specs, on which no reply is lost. A relay has up
+    /// to 16, no two of one name.
+    pub fn new(alloc: Global, specs: &[BoxSpec]) -> Result<RelayLink, AllocError>
+        ensures { IfOk result (λ link. link ≡ fresh_connection REPLY_LIMIT (map empty_box (names_of specs.now))) }
     {
-        let desk = Desk::new(alloc, names)?;
+        let desk = Desk::new(alloc, specs)?;
         Ok(RelayLink {
             start: Snapshot::of(desk.relay()),
             desk,

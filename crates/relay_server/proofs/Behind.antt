@@ -1,5 +1,5 @@
 -- What lies in none of a relay's areas, over two moments.
-use Rattle.std.proofs.Common.{◌≢◌, ◌⊎◌, inl, inr, ⊎_elim, ℕ, ◌<◌, ◌≤◌, List, refl, ◌∙◌, arith}
+use Rattle.std.proofs.Common.{◌≢◌, inl, inr, ⊎_elim, ℕ, ◌<◌, ◌≤◌, List, refl, ◌∙◌, arith}
 use Rattle.std.proofs.lemmas.Bool.{cases_lt}
 use Rattle.slot_store.specs.Areas.{IsInArea, IsOutsideArea, IsSameOutsideArea}
 use Rattle.slot_store.proofs.Rows.{IsBesideLower, IsBesideUpper, IsInLower, IsInUpper, is_outside, is_within}

@@ -27,10 +27,10 @@ served_is boxes frames rest whole = ap (served_within EXCHANGE_LIMIT boxes) (fra
 nothing_left : frames_of [] ≡ []
 nothing_left = no_frames [] (omega arith)
 
-same_span : (text : Box → List ℕ) (boxes : List Box) (frames : List (List ℕ)) (got : List ℕ) (a b : DiskState) → frames_of got ≡ frames → Span a b (λ c. ReachedIn text EXCHANGE_LIMIT boxes frames c × IsSameBehind (length boxes) a c) → Span a b (λ c. Reached text boxes got c × IsSameBehind (length boxes) a c)
-same_span text boxes frames got a b is span = subst (λ (fs : List (List ℕ)). Span a b (λ c. ReachedIn text EXCHANGE_LIMIT boxes fs c × IsSameBehind (length boxes) a c)) (sym is) span
+same_span : (boxes : List Box) (frames : List (List ℕ)) (got : List ℕ) (a b : DiskState) → frames_of got ≡ frames → Span a b (λ c. ReachedIn EXCHANGE_LIMIT boxes frames c × IsSameBehind (length boxes) a c) → Span a b (λ c. Reached boxes got c × IsSameBehind (length boxes) a c)
+same_span boxes frames got a b is span = subst (λ (fs : List (List ℕ)). Span a b (λ c. ReachedIn EXCHANGE_LIMIT boxes fs c × IsSameBehind (length boxes) a c)) (sym is) span
 
-module _ (text : Box → List ℕ) (old : ServerNow) (boxes : List Box) (start now : Port) (dstart dnow : DiskState) (n : ℕ) (so : ServedSoFar text EXCHANGE_LIMIT old boxes start now dstart dnow n) where
+module _ (old : ServerNow) (boxes : List Box) (start now : Port) (dstart dnow : DiskState) (n : ℕ) (so : ServedSoFar EXCHANGE_LIMIT old boxes start now dstart dnow n) where
   pub frames_are : frames_of (flat so.frames) ≡ so.frames
   frames_are = ap frames_of (sym (append-nil (flat so.frames))) ∙ frames_join so.frames [] so.each ∙ ap (λ (fs : List (List ℕ)). so.frames ++ fs) nothing_left ∙ append-nil so.frames
 
@@ -44,7 +44,7 @@ module _ (text : Box → List ℕ) (old : ServerNow) (boxes : List Box) (start n
 
     total_served : served old.boxes total ≡ ended_with so.exs boxes
     total_served = served_is old.boxes so.frames got so.each ∙ ap (λ (fs : List (List ℕ)). served_within EXCHANGE_LIMIT old.boxes (so.frames ++ fs)) (no_frames got idle.partial)
-        ∙ ap (served_within EXCHANGE_LIMIT old.boxes) (append-nil so.frames) ∙ so_served text EXCHANGE_LIMIT old boxes start now dstart dnow n so
+        ∙ ap (served_within EXCHANGE_LIMIT old.boxes) (append-nil so.frames) ∙ so_served EXCHANGE_LIMIT old boxes start now dstart dnow n so
 
     pub idle_answers : AnswersStream old.boxes next total (reply_bytes (served old.boxes total)) start after
     idle_answers = record {
@@ -54,8 +54,8 @@ module _ (text : Box → List ℕ) (old : ServerNow) (boxes : List Box) (start n
       next_is = idle.same ∙ ap (λ (s : Served). s.next) (sym total_served);
     }
 
-    pub idle_during : Span dstart dafter (λ c. Reached text old.boxes total c × IsSameBehind (length old.boxes) dstart c)
-    idle_during = same_span text old.boxes so.frames total dstart dafter total_frames (spans dstart dnow dafter _ so.during (widen dnow dafter _ _ (λ c none. absurd none) idle.still))
+    pub idle_during : Span dstart dafter (λ c. Reached old.boxes total c × IsSameBehind (length old.boxes) dstart c)
+    idle_during = same_span old.boxes so.frames total dstart dafter total_frames (spans dstart dnow dafter _ so.during (widen dnow dafter _ _ (λ c none. absurd none) idle.still))
 
     pub idle_boxes : length next ≡ length old.boxes
     idle_boxes = ap length idle.same ∙ so.boxes_count
@@ -70,15 +70,15 @@ module _ (text : Box → List ℕ) (old : ServerNow) (boxes : List Box) (start n
         ap (λ (m : List ℕ). served old.boxes (total ++ m)) none ∙ ap (served old.boxes) (append-nil total)
 
   -- a frame came
-  module _ (frame put : List ℕ) (next : List Box) (after : Port) (dafter : DiskState) (under : n < EXCHANGE_LIMIT) (came : Came text frame put boxes next now after dnow dafter) where
+  module _ (frame put : List ℕ) (next : List Box) (after : Port) (dafter : DiskState) (under : n < EXCHANGE_LIMIT) (came : Came frame put boxes next now after dnow dafter) where
     abbrev whole : List ℕ
     whole = flat so.frames ++ frame
 
     flat_is : flat (so.frames ++ frame ∷ []) ≡ whole
-    flat_is = flat_with text EXCHANGE_LIMIT old boxes start now dstart dnow n so frame put next after dafter under came
+    flat_is = flat_with EXCHANGE_LIMIT old boxes start now dstart dnow n so frame put next after dafter under came
 
     all_whole : AllByRecursion IsFrame (so.frames ++ frame ∷ [])
-    all_whole = whole_with text EXCHANGE_LIMIT old boxes start now dstart dnow n so frame put next after dafter under came
+    all_whole = whole_with EXCHANGE_LIMIT old boxes start now dstart dnow n so frame put next after dafter under came
 
     pub whole_frames : frames_of whole ≡ so.frames ++ frame ∷ []
     whole_frames = ap frames_of (sym flat_is ∙ sym (append-nil (flat (so.frames ++ frame ∷ [])))) ∙ frames_join (so.frames ++ frame ∷ []) [] all_whole ∙ ap (λ (fs : List (List ℕ)). (so.frames ++ frame ∷ []) ++ fs) nothing_left ∙ append-nil (so.frames ++ frame ∷ [])
@@ -87,20 +87,20 @@ module _ (text : Box → List ℕ) (old : ServerNow) (boxes : List Box) (start n
     whole_served =
         ap (served old.boxes) (sym flat_is ∙ sym (append-nil (flat (so.frames ++ frame ∷ [])))) ∙ served_is old.boxes (so.frames ++ frame ∷ []) [] all_whole
         ∙ ap (λ (fs : List (List ℕ)). served_within EXCHANGE_LIMIT old.boxes ((so.frames ++ frame ∷ []) ++ fs)) nothing_left ∙ ap (served_within EXCHANGE_LIMIT old.boxes) (append-nil (so.frames ++ frame ∷ []))
-        ∙ with_frame text EXCHANGE_LIMIT old boxes start now dstart dnow n so frame put next after dafter under came
+        ∙ with_frame EXCHANGE_LIMIT old boxes start now dstart dnow n so frame put next after dafter under came
 
-    pub came_during : Span dstart dafter (λ c. Reached text old.boxes whole c × IsSameBehind (length old.boxes) dstart c)
-    came_during = same_span text old.boxes (so.frames ++ frame ∷ []) whole dstart dafter whole_frames (span_with text EXCHANGE_LIMIT old boxes start now dstart dnow n so frame put next after dafter under came)
+    pub came_during : Span dstart dafter (λ c. Reached old.boxes whole c × IsSameBehind (length old.boxes) dstart c)
+    came_during = same_span old.boxes (so.frames ++ frame ∷ []) whole dstart dafter whole_frames (span_with EXCHANGE_LIMIT old boxes start now dstart dnow n so frame put next after dafter under came)
 
     pub came_boxes : length next ≡ length old.boxes
-    came_boxes = count_with text EXCHANGE_LIMIT old boxes start now dstart dnow n so frame put next after dafter under came
+    came_boxes = count_with EXCHANGE_LIMIT old boxes start now dstart dnow n so frame put next after dafter under came
 
-    pub came_stands : Always (StandsForEitherBoxes text boxes next) dafter → LastOrBefore text old.boxes next whole dafter
+    pub came_stands : Always (StandsForEitherBoxes boxes next) dafter → LastOrBefore old.boxes next whole dafter
     came_stands each = record {
       front = so.frames;
       frame = frame;
       split = whole_frames;
-      each = subst (λ (bs : List Box). Always (StandsForEitherBoxes text bs next) dafter) (sym (ap (λ (s : Served). s.next) (so_served text EXCHANGE_LIMIT old boxes start now dstart dnow n so))) each;
+      each = subst (λ (bs : List Box). Always (StandsForEitherBoxes bs next) dafter) (sym (ap (λ (s : Served). s.next) (so_served EXCHANGE_LIMIT old boxes start now dstart dnow n so))) each;
     }
 
     -- the replies, up to what was sent of the last
@@ -140,8 +140,8 @@ module _ (text : Box → List ℕ) (old : ServerNow) (boxes : List Box) (start n
       next_is = ap (λ (s : Served). s.next) (sym full_here);
     }
 
-    pub full_during : Span dstart dnow (λ c. Reached text old.boxes (flat so.frames) c × IsSameBehind (length old.boxes) dstart c)
-    full_during = same_span text old.boxes so.frames (flat so.frames) dstart dnow frames_are so.during
+    pub full_during : Span dstart dnow (λ c. Reached old.boxes (flat so.frames) c × IsSameBehind (length old.boxes) dstart c)
+    full_during = same_span old.boxes so.frames (flat so.frames) dstart dnow frames_are so.during
 
     pub full_count : length (served old.boxes (flat so.frames)).exchanges ≡ EXCHANGE_LIMIT
     full_count = ap (λ (s : Served). length s.exchanges) full_here ∙ so.count ∙ full

@@ -1,32 +1,33 @@
 -- Boxes that are loaded, and areas that get an empty box's record.
-use Rattle.std.proofs.Common.{◌≡◌, ◌≢◌, inl, inr, ⊎_elim, ℕ, ◌+◌, ◌<◌, ◌≤◌, Bool, true, List, Vec, ◌++◌, length, Option, Some, None, refl, sym, ◌∙◌, ap, subst, arith, length-append}
+use Rattle.std.proofs.Common.{◌≡◌, ◌≢◌, inl, inr, ⊎_elim, ℕ, ◌+◌, ◌<◌, ◌≤◌, Bool, true, List, [], ◌∷◌, Vec, length, Option, Some, None, refl, sym, ◌∙◌, ap, subst, arith}
 use Rattle.std.specs.Prelude.{slice_get}
-use Rattle.std.specs.Int.{w8, w64, to_be_bytes}
-use Rattle.grammar.specs.Printer.{print_items, print_sized}
 use Rattle.slot_store.specs.Kept.{content_or_empty}
 use Rattle.std.proofs.lemmas.Bool.{cases_eq}
 use Rattle.std.proofs.lemmas.Option.{slice_get_within}
 use Rattle.dr_disk.specs.Spans.{Span}
 use Rattle.dr_disk.specs.State.{Always, DiskState}
 use Rattle.dr_disk.proofs.Steps.{spans, widen}
-use Rattle.slot_store.specs.Areas.{Area, HasText}
+use Rattle.slot_store.specs.Areas.{Area, HasText, IsSameOutsideArea}
 use Rattle.slot_store.specs.Laws.{DependsOnAreaAlone}
+use Rattle.slot_store.specs.Reading.{IsUndamaged}
 use Rattle.slot_store.specs.Records.{stored_record}
 use Rattle.slot_store.specs.Store.{IsOldOrNew, HasArea, KeepsOutsideArea, Rests, SlotStore, content}
 use Rattle.relay_core.specs.Boxes.{Box, empty_box}
 use Rattle.relay_core.specs.declared.limits.TheConstants.{RELAY_LIMIT}
-use Rattle.relay_core.specs.Record.{box_text, head_text, kept_packet_text}
+use Rattle.relay_core.specs.Record.{IsRecordOf, box_text}
 use Rattle.relay_server.specs.declared.limits.TheConstants.{RECORD_PAGES}
 use Rattle.relay_server.specs.Durable.{IsReplaced}
 use Rattle.relay_server.specs.Places.{IsBoxRoom, area_of}
 use Rattle.relay_server.specs.Filling.{AreFilled, HasBox, IsFilling}
 use Rattle.relay_server.specs.Opening.{StaysOrBegins}
+use Rattle.relay_server.specs.Reading.{AreNoWorse, box_fault_of}
+use Rattle.relay_server.proofs.LoadedBoxes.{no_record}
 use Rattle.relay_server.proofs.Behind.{behind_one, behind_self, behind_twice}
-use Rattle.relay_server.proofs.OneStore.{there_is, OneReplaced, old_store, new_store, is_replaced, is_new, around_area, new_areas, new_rests}
+use Rattle.relay_server.proofs.OneStore.{apart, same_undamaged, there_is, OneReplaced, old_store, new_store, is_replaced, is_new, around_area, new_areas, new_rests}
 use Rattle.relay_server.proofs.OpenedAreas.{other_same}
 
 filling_self : (boxes : List Box) (start : DiskState) (c : List ℕ) → start.image c → IsFilling boxes start c
-filling_self boxes start c left = record { entry = c; image = left; each = λ k box there. inl refl; outside = behind_self (length boxes) c }
+filling_self boxes start c left = record { entry = c; image = left; each = λ k box there. inl refl; undamaged = λ k less whole. whole; outside = behind_self (length boxes) c }
 
 -- stays or begins, twice
 twice : (name : List ℕ) (a b c : Option (List ℕ)) → StaysOrBegins name a b → StaysOrBegins name b c → StaysOrBegins name a c
@@ -43,23 +44,16 @@ filling_on boxes start d now first next = spans start d now (IsFilling boxes sta
       entry = was.entry;
       image = was.image;
       each = λ k box there. twice box.name _ _ _ (was.each k box there) (is.each k box there);
+      undamaged = λ k less whole. is.undamaged k less (was.undamaged k less whole);
       outside = behind_twice (length boxes) was.entry is.entry c was.outside is.outside;
     }) next)
 
 -- ---- a record is never empty
 
-first_of : (xs ys : List ℕ) → 1 ≤ length xs → length (xs ++ ys) ≡ 0 → ⊥
-first_of xs ys some is = omega (arith, some, is, length-append {A = ℕ} xs ys)
-
-some_text : (box : Box) → length (box_text box) ≡ 0 → ⊥
-unfolding box_text
-some_text box is =
-    first_of (head_text box.name box.last (length box.packets)) (print_items kept_packet_text box.packets)
-    (let one : length (to_be_bytes w8 1) ≡ 1 = refl in omega (arith, one, length-append {A = ℕ} (to_be_bytes w8 1) (print_sized w8 box.name ++ (to_be_bytes w64 box.last ++ to_be_bytes w8 (length box.packets))))) is
-
 pub none_there : (n k : ℕ) (box : Box) (o : Option (List ℕ)) → HasBox n k box o → length (content_or_empty o) ≡ 0 → o ≡ None
 none_there n k box None has is = refl
-none_there n k box (Some text) has is = absurd (some_text box (ap length (sym has) ∙ is))
+none_there n k box (Some []) has is = absurd (let e : Some 0 ≡ None = sym no_record ∙ ap box_fault_of has in cc)
+none_there n k box (Some (x ∷ text)) has is = absurd (omega (arith, is))
 
 -- ---- nothing is put, where a record stands
 
@@ -111,6 +105,7 @@ pub record Put (n : ℕ) (boxes : List Box) (stores news : List SlotStore) (t : 
   pub none : (store : SlotStore) → slice_get stores n ≡ Some store → content store ≡ None
   pub stores_count : length news ≡ length stores
   pub written : (box : Box) → slice_get boxes n ≡ Some box → t ≡ box_text box
+  pub is_record : (box : Box) → slice_get boxes n ≡ Some box → IsRecordOf box t
   pub others : (j : ℕ) → j ≢ n → slice_get news j ≡ slice_get stores j
   pub there : (old new : SlotStore) → slice_get stores n ≡ Some old → slice_get news n ≡ Some new → IsReplaced t old new start now done
   pub local : DependsOnAreaAlone
@@ -168,6 +163,13 @@ module _ (n : ℕ) (boxes : List Box) (stores news : List SlotStore) (t : List �
   few_box : (k : ℕ) (box : Box) → slice_get boxes k ≡ Some box → k < RELAY_LIMIT
   few_box k box there = let inside = slice_get_within boxes k box there in omega (arith, inside, r.filled.few)
 
+  no_worse : (c d : List ℕ) → IsSameOutsideArea (area_of n) d c → IsUndamaged the_old.0.area c → AreNoWorse (length boxes) d c
+  no_worse c d same whole k less was = elim (cases_eq k n) [
+    | inl here ↦ subst (λ (a : Area). IsUndamaged a c) (old_area ∙ ap area_of (sym here)) whole
+    | inr other ↦ same_undamaged r.local (area_of k) c d
+        (apart k n c d (omega (arith, less, r.filled.few)) (omega (arith, r.inside, r.filled.few)) other same) was
+  ]
+
   each : (c : List ℕ) → IsOldOrNew start the_old.0.area (content the_old.0) (Some t) c → IsFilling boxes start c
   each c o =
       let frame = framed c o.frame in
@@ -180,6 +182,7 @@ module _ (n : ℕ) (boxes : List Box) (stores news : List SlotStore) (t : List �
               subst (λ (m : ℕ). StaysOrBegins box.name (stored_record (area_of m) frame.0) (stored_record (area_of m) c)) (sym same) (either c box here o frame.0 frame.1)
           | inr other ↦ inl (other_same r.local k n frame.0 c (few_box k box there) (omega (arith, r.inside, r.filled.few)) other frame.2)
         ];
+        undamaged = no_worse c frame.0 frame.2 o.undamaged;
         outside = behind_one (length boxes) n frame.0 c r.inside frame.2;
       }
 
@@ -197,7 +200,7 @@ module _ (n : ℕ) (boxes : List Box) (stores news : List SlotStore) (t : List �
       | inl same ↦
           let f = is_new n stores news t start now done one_store j store same there in
           let holds : content store ≡ Some t = ap content (sym f) ∙ is.holds passed in
-          subst (HasBox (n + 1) j box) (sym holds) (r.written box (subst (λ (m : ℕ). slice_get boxes m ≡ Some box) same boxed))
+          subst (HasBox (n + 1) j box) (sym holds) (r.is_record box (subst (λ (m : ℕ). slice_get boxes m ≡ Some box) same boxed))
       | inr other ↦ later_text n j box (content store) (r.filled.each j store box (sym (r.others j other) ∙ there) boxed) other
     ];
   }

@@ -4,6 +4,7 @@ pub mod FrameByFrame
 pub mod FilledAreas
 pub mod LoadedBoxes
 mod LowerHalves
+mod Reopening
 pub mod OneStore
 pub mod OpenedAreas
 pub mod OpenedBoxes

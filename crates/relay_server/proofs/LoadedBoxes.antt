@@ -8,15 +8,16 @@ use Rattle.slot_store.specs.Kept.{content_or_empty}
 use Rattle.relay_core.specs.Loading.{Loads}
 use Rattle.relay_core.specs.declared.loading.Loaded.TheVariants.{OtherName, Taken}
 use Rattle.relay_core.specs.Boxes.{Box}
-use Rattle.relay_core.specs.Record.{box_fields, box_read, box_text, head_fields}
-use Rattle.relay_server.specs.Opening.{box_fault, box_fault_of}
+use Rattle.relay_core.specs.Record.{box_fields, box_read, head_fields}
+use Rattle.relay_core.specs.Versions.{version_field}
+use Rattle.relay_server.specs.Reading.{box_fault, box_fault_of}
 use Rattle.relay_server.specs.Filling.{AreLoaded, IsFirstOthers, IsBoxKept, IsLoadedAt, IsOthers}
 use Rattle.relay_server.proofs.OneStore.{there_is}
 
 -- ---- a record is never empty
 
-no_record : box_fault [] ≡ Some 0
-unfolding box_read box_fields head_fields number
+pub no_record : box_fault [] ≡ Some 0
+unfolding box_read box_fields head_fields version_field number
 no_record = refl
 
 -- a store without a record
@@ -57,8 +58,8 @@ module _ (old new : List Box) (k : ℕ) (text : List ℕ) (clean : box_fault tex
   read : (b : Box) × (box_read text ≡ Ok b)
   read = ok_of (box_read text) clean
 
-  pub taken : ((b : Box) → box_read text ≡ Ok b → text ≡ box_text b) → length new ≡ length old → IfOk (box_read text) (λ box. Loads old new k box Taken) → IsLoadedAt k old new (Some text)
-  taken printed count loads =
+  pub taken : length new ≡ length old → IfOk (box_read text) (λ box. Loads old new k box Taken) → IsLoadedAt k old new (Some text)
+  taken count loads =
       let done = subst (λ (r : Result Box ℕ). IfOk r (λ box. Loads old new k box Taken)) read.1 loads in (
         count,
         λ j other. ap (λ (bs : List Box). slice_get bs j) done.1 ∙ set_others old k read.0 j other,
@@ -66,7 +67,6 @@ module _ (old new : List Box) (k : ℕ) (text : List ℕ) (clean : box_fault tex
             let same : box ≡ read.0 = set_here old k read.0 box (ap (λ (bs : List Box). slice_get bs k) (sym done.1) ∙ boxed) in (
               read.1 ∙ ap (λ (b : Box). Ok b) (sym same),
               ap (λ (b : Box). b.name) same ∙ sym (named (slice_get old k) was read.0 wased done.0),
-              printed read.0 read.1 ∙ ap box_text (sym same),
             ),
       )
 

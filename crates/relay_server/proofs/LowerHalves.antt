@@ -4,7 +4,7 @@ use Rattle.slot_store.specs.Laws.{IsWider, StandsInWider}
 use Rattle.slot_store.specs.Reading.{AreaReading, area_reading, damaged, holds, no_content}
 use Rattle.relay_core.specs.declared.limits.TheConstants.{RELAY_LIMIT}
 use Rattle.relay_server.specs.LowerHalves.{ReadsLowerHalves, lower_area}
-use Rattle.relay_server.specs.Opening.{IsUndamagedReading, area_read, box_fault}
+use Rattle.relay_server.specs.Reading.{IsUndamagedReading, area_read, box_fault}
 use Rattle.relay_server.specs.Places.{area_of}
 use Rattle.relay_server.specs.declared.limits.TheConstants.{RECORD_PAGES, UPPER_START}
 

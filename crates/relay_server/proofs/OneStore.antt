@@ -1,11 +1,13 @@
 -- One store of many has another record: the others are as they were.
-use Rattle.std.proofs.Common.{◌≡◌, ◌≢◌, inl, inr, ℕ, zero, suc, ◌<◌, ◌≤◌, Bool, true, List, [], ◌∷◌, length, Some, refl, sym, ◌∙◌, ap, subst, arith}
+use Rattle.std.proofs.Common.{◌≡◌, ◌≢◌, inl, inr, ℕ, zero, suc, ◌<◌, ◌≤◌, Bool, true, List, [], ◌∷◌, length, Option, Some, None, refl, sym, ◌∙◌, ap, subst, arith}
 use Rattle.std.specs.Prelude.{slice_get}
 use Rattle.std.proofs.lemmas.Bool.{cases_eq}
 use Rattle.std.proofs.lemmas.Option.{slice_get_within}
 use Rattle.dr_disk.specs.State.{Always, DiskState}
 use Rattle.slot_store.specs.Areas.{Area, IsSameOutsideArea}
 use Rattle.slot_store.specs.Laws.{DependsOnAreaAlone, SameWithin}
+use Rattle.slot_store.specs.Reading.{IsUndamaged, OpensAs}
+use Rattle.slot_store.specs.Records.{stored_record}
 use Rattle.slot_store.specs.Store.{KeepsOutsideArea, Rests, SlotStore}
 use Rattle.relay_core.specs.declared.limits.TheConstants.{RELAY_LIMIT}
 use Rattle.relay_server.specs.Durable.{IsReplaced}
@@ -23,6 +25,15 @@ apart j k c d few_j few_k other same = record {
   size = same.size;
   bytes = λ i inside. same.outside i (area_apart j k i few_j few_k other inside);
 }
+
+-- what is the same within an area is read without damage alike
+by_content : DependsOnAreaAlone → (area : Area) (c d : List ℕ) → SameWithin area c d → (o : Option (List ℕ)) → OpensAs area o d → OpensAs area o c
+by_content local area c d same None opens = λ fault_at. local.reads fault_at area c d same ∙ opens fault_at
+by_content local area c d same (Some text) opens = λ fault_at clean. local.reads fault_at area c d same ∙ opens fault_at clean
+
+pub same_undamaged : DependsOnAreaAlone → (area : Area) (c d : List ℕ) → SameWithin area c d → IsUndamaged area d → IsUndamaged area c
+same_undamaged local area c d same whole = subst (λ (o : Option (List ℕ)). OpensAs area o c) (sym (local.record_of area c d same))
+    (by_content local area c d same (stored_record area d) whole)
 
 -- the store at a place was replaced
 pub record OneReplaced (n : ℕ) (stores news : List SlotStore) (t : List ℕ) (start now : DiskState) (done : Bool) : Type 0 where

@@ -13,17 +13,18 @@ use Rattle.slot_store.specs.declared.opening.Found.{Found}
 use Rattle.slot_store.specs.declared.opening.Found.TheVariants.{Content, NoContent}
 use Rattle.slot_store.specs.Found.{found_as, has_content}
 use Rattle.slot_store.specs.Laws.{DependsOnAreaAlone, SameWithin}
-use Rattle.slot_store.specs.Reading.{IsEntryOrLike, IsLikeRead, damaged}
+use Rattle.slot_store.specs.Reading.{IsEntryOrLike, IsLikeRead, IsUndamaged, damaged}
 use Rattle.slot_store.specs.Records.{stored_record}
 use Rattle.slot_store.specs.Store.{Rests, SlotStore, content}
 use Rattle.relay_core.specs.declared.limits.TheConstants.{RELAY_LIMIT}
 use Rattle.relay_server.specs.Areas.{AreAtRest, AreOpened, AreRefused, HasLooked, IsAreaOpened, IsAreaRefused, IsLikeEntry, store_reading}
-use Rattle.relay_server.specs.Places.{SameBehind, area_of}
-use Rattle.relay_server.specs.Opening.{IsFirstDamaged, IsServerUnopened, IsUndamagedReading, OfRead, area_read, box_fault}
+use Rattle.relay_server.specs.Places.{SameBehind, UnwrittenBehind, area_of}
+use Rattle.relay_server.specs.Opening.{IsFirstDamaged, IsServerUnopened, OfRead}
+use Rattle.relay_server.specs.Reading.{IsUndamagedReading, area_read, box_fault}
 use Rattle.relay_server.specs.declared.errors.ServerOpenError.{ServerOpenError}
 use Rattle.relay_server.specs.declared.errors.ServerOpenError.TheVariants.{BoxName, Damaged, Memory, StoreFault}
 use Rattle.relay_server.proofs.Behind.{area_apart, behind_more, behind_one, behind_self, behind_twice}
-use Rattle.relay_server.proofs.OneStore.{apart, there_is}
+use Rattle.relay_server.proofs.OneStore.{apart, same_undamaged, there_is}
 
 -- a store was read as its record
 pub read_as : (found : Found) (text : Option (List ℕ)) → is_some text ≡ has_content found → found_as found text ≡ store_reading text
@@ -77,11 +78,14 @@ none_opened count start stores is = subst (λ (xs : List SlotStore). AreOpened 0
   clean = λ k store text there. absurd (let e : None ≡ Some store = there in cc);
   rests = λ k store there. absurd (let e : None ≡ Some store = there in cc);
   read = λ s was k store there. absurd (let e : None ≡ Some store = there in cc);
-  untouched = λ s r was is. let e : s ≡ r = let f : Some s ≡ Some r = sym was ∙ is in cc in subst (SameBehind 0 s) e (behind_self 0 s);
+  untouched = record {
+    read = λ s r was is. let e : s ≡ r = let f : Some s ≡ Some r = sym was ∙ is in cc in subst (SameBehind 0 s) e (behind_self 0 s);
+    images = λ c left. (c, left, behind_self 0 c);
+  };
 })
 
 pub entry_self : (count : ℕ) (start : DiskState) (c : List ℕ) → start.image c → IsLikeEntry count start c
-entry_self count start c left = record { entry = c; image = left; same = λ k less. refl; outside = behind_self count c }
+entry_self count start c left = record { entry = c; image = left; same = λ k less. refl; undamaged = λ k less whole. whole; outside = behind_self count c }
 
 -- where one area alone changes, each other is read as it was
 pub other_same : DependsOnAreaAlone → (j k : ℕ) (d c : List ℕ) → j < RELAY_LIMIT → k < RELAY_LIMIT → j ≢ k
@@ -107,6 +111,10 @@ module _ (local : DependsOnAreaAlone) (n count : ℕ) (start d now : DiskState) 
           | inl here ↦ subst (λ (m : ℕ). stored_record (area_of m) c ≡ stored_record (area_of m) like.read) (sym here) like.same ∙ before.same k under
           | inr other ↦ other_same local k n like.read c (omega (arith, under, few)) few_n other like.outside ∙ before.same k under
         ];
+        undamaged = λ k under whole. elim (cases_eq k n) [
+          | inl here ↦ subst (λ (m : ℕ). IsUndamaged (area_of m) c) (sym here) (like.undamaged (subst (λ (m : ℕ). IsUndamaged (area_of m) like.read) here (before.undamaged k under whole)))
+          | inr other ↦ same_undamaged local (area_of k) c like.read (apart k n c like.read (omega (arith, under, few)) few_n other like.outside) (before.undamaged k under whole)
+        ];
         outside = behind_twice count before.entry like.read c before.outside (behind_one count n like.read c less like.outside);
       }) is
 
@@ -127,7 +135,7 @@ module _ (local : DependsOnAreaAlone) (n count : ℕ) (start d now : DiskState) 
   -- the area that comes next is read as it was at first
   unread : (s r : List ℕ) → start.seen ≡ Some s → d.seen ≡ Some r → area_read n s ≡ area_read n r
   unread s r was is =
-      let same = so_far.untouched s r was is in
+      let same = so_far.untouched.read s r was is in
       local.reads box_fault (area_of n) s r
       (record { size = sym same.size; bytes = λ i inside. sym (same.outside i (λ k lt. area_apart n k i few_n (omega (arith, lt, few_n)) (λ is. omega (arith, is, lt)) inside)) })
 
@@ -142,11 +150,22 @@ module _ (local : DependsOnAreaAlone) (n count : ℕ) (start d now : DiskState) 
     here = let r = so_far.looked.during.told s was in unread s r.0 was r.1 ∙ here r.0 r.1;
   }
 
+  -- nothing was written to it, nor to those after it
+  unwritten_behind : Unwritten d now → UnwrittenBehind n start now
+  unwritten_behind unwritten = record {
+    read = λ s r was is. so_far.untouched.read s r was (sym unwritten.seen ∙ is);
+    images = λ c left. so_far.untouched.images c (unwritten.images c left);
+  }
+
   pub refused : (e : ServerOpenError) → IsAreaRefused n d now e → AreRefused count start now e
   refused Memory is = quiet_twice start d now so_far.quiet is
   refused (StoreFault call) is = omega (arith, is, so_far.looked.during.counts call)
-  refused (Damaged area slot at) is =
-      (omega (arith, less, is.0), quiet_twice start d now so_far.quiet is.1, subst (λ (k : ℕ). OfRead start (IsFirstDamaged count k slot at)) (sym is.0) (damaged_first slot at is.2))
+  refused (Damaged area slot at) is = (
+    omega (arith, less, is.0),
+    quiet_twice start d now so_far.quiet is.1,
+    subst (λ (k : ℕ). OfRead start (IsFirstDamaged count k slot at)) (sym is.0) (damaged_first slot at is.2),
+    subst (λ (k : ℕ). UnwrittenBehind k start now) (sym is.0) (unwritten_behind is.3),
+  )
   refused (BoxName k) is = absurd is
 
   -- ---- it is opened
@@ -167,6 +186,10 @@ module _ (local : DependsOnAreaAlone) (n count : ℕ) (start d now : DiskState) 
     below_n : (k : ℕ) (other : SlotStore) → slice_get stores k ≡ Some other → k ≢ n
     below_n k other there same = let inside = slice_get_within stores k other there in omega (arith, inside, so_far.count_is, same)
 
+    behind_on : (s e r : List ℕ) → SameBehind n s e → IsSameOutsideArea (area_of n) e r → SameBehind (n + 1) s r
+    behind_on s e r first same = behind_twice (n + 1) s e r (behind_more n (n + 1) s e (omega arith) first)
+        (behind_one (n + 1) n e r (omega arith) same)
+
     pub one_more : AreOpened (n + 1) count (stores ++ store ∷ []) start now
     one_more = record {
       count_is = omega (arith, length-append {A = SlotStore} stores (store ∷ []), so_far.count_is);
@@ -183,8 +206,13 @@ module _ (local : DependsOnAreaAlone) (n count : ℕ) (start d now : DiskState) 
           ⊎_elim (λ old. so_far.read s was k other old)
           (λ new. subst (λ (m : ℕ). area_read m s ≡ store_reading (content other)) (sym (new.0 ∙ so_far.count_is))
           (unread s r.0 was r.1 ∙ one.read r.0 r.1 ∙ ap (λ (x : SlotStore). store_reading (content x)) new.1)) (pushed stores store other k there);
-      untouched = λ s r was is.
-          let like = reads r is in
-          behind_twice (n + 1) s like.read r (behind_more n (n + 1) s like.read (omega arith) (so_far.untouched s like.read was like.told))
-          (behind_one (n + 1) n like.read r (omega arith) like.outside);
+      untouched = record {
+        read = λ s r was is.
+            let like = reads r is in
+            behind_on s like.read r (so_far.untouched.read s like.read was like.told) like.outside;
+        images = λ c left.
+            let like = one.alike c left in
+            let was = so_far.untouched.images like.read (lawful.seen_now like.read like.told) in
+            (was.0, was.1, behind_on was.0 like.read c was.2 like.outside);
+      };
     }

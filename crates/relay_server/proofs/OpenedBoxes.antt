@@ -16,7 +16,8 @@ use Rattle.relay_server.specs.Places.{HasRoomFor, SameBehind, area_of}
 use Rattle.relay_server.specs.Durable.{ServerNow}
 use Rattle.relay_server.specs.Looking.{HasSettled, IsLooked}
 use Rattle.relay_server.specs.Filling.{AreFilled, AreLoaded, HasBox, IsFilling, IsFirstOthers, IsBoxKept, IsOthers}
-use Rattle.relay_server.specs.Opening.{AreBoxesRead, GivesBox, HasOtherName, IsServerOpened, IsOpening, IsServerUnopened, IsUndamagedReading, StaysOrBegins}
+use Rattle.relay_server.specs.Opening.{AreBoxesRead, GivesBox, HasOtherName, IsServerOpened, IsOpening, IsServerUnopened, StaysOrBegins}
+use Rattle.relay_server.specs.Reading.{IsUndamagedReading}
 use Rattle.relay_server.specs.declared.errors.ServerOpenError.TheVariants.{BoxName}
 use Rattle.relay_server.proofs.Behind.{behind_twice}
 use Rattle.relay_server.proofs.OpenedAreas.{entry_self, whole_of}
@@ -34,7 +35,7 @@ begins_as (n ∷ names) (suc k) name is = begins_as names k name is
 
 gives_of : (name : List ℕ) (box : Box) (text : Option (List ℕ)) → IsBoxKept (empty_box name) box text → GivesBox name box (store_reading text)
 gives_of name box None is = is
-gives_of name box (Some text) is = (is.0, is.1)
+gives_of name box (Some text) is = is
 
 name_of : (name : List ℕ) (box : Box) (text : Option (List ℕ)) → IsBoxKept (empty_box name) box text → box.name ≡ name
 name_of name box None is = ap (λ (b : Box). b.name) is
@@ -42,7 +43,7 @@ name_of name box (Some text) is = is.1
 
 has_of : (k : ℕ) (name : List ℕ) (box : Box) (text : Option (List ℕ)) → IsBoxKept (empty_box name) box text → HasBox 0 k box text
 has_of k name box None is = (omega arith, is ∙ ap (λ (b : Box). empty_box b.name) (sym is))
-has_of k name box (Some text) is = is.2
+has_of k name box (Some text) is = is.0
 
 other_of : (name : List ℕ) (text : Option (List ℕ)) → IsOthers (empty_box name) text → HasOtherName name (store_reading text)
 other_of name None is = is
@@ -51,7 +52,7 @@ other_of name (Some text) is = is
 -- ---- what a crash leaves
 
 opening_like : (names : List (List ℕ)) (start : DiskState) (c : List ℕ) → IsLikeEntry (length names) start c → IsOpening names start c
-opening_like names start c like = record { entry = like.entry; image = like.image; each = λ k name there. inl (like.same k (slice_get_within names k name there)); outside = like.outside }
+opening_like names start c like = record { entry = like.entry; image = like.image; each = λ k name there. inl (like.same k (slice_get_within names k name there)); undamaged = like.undamaged; outside = like.outside }
 
 pub look_moments : (names : List (List ℕ)) (start now : DiskState) → HasLooked (length names) start now → Span start now (IsOpening names start)
 look_moments names start now looks = widen start now _ _ (opening_like names start) looks.during
@@ -134,6 +135,7 @@ module _ (names : List (List ℕ)) (start mid now : DiskState) (looked : ServerN
             subst (λ (o : Option (List ℕ)). StaysOrBegins name o (stored_record (area_of k) c))
             (like.same k (slice_get_within names k name named))
             (subst (λ (n : List ℕ). StaysOrBegins n (stored_record (area_of k) is.entry) (stored_record (area_of k) c)) (is_looked.boxes.named k name box.0 named box.1) (is.each k box.0 box.1));
+        undamaged = λ k less whole. is.undamaged k (omega (arith, less, is_looked.boxes.count)) (like.undamaged k less whole);
         outside = behind_twice (length names) like.entry is.entry c like.outside (subst (λ (n : ℕ). SameBehind n is.entry c) is_looked.boxes.count is.outside);
       }
 

@@ -29,12 +29,12 @@ then_took got put None = refl
 then_took got put (Some t) = refl
 
 -- and of its reply a part was sent
-pub came_part : (text : Box → List ℕ) (reader held : Held) (put : List ℕ) (old new : List Box) (start mid now : Port) (dstart dnow : DiskState)
+pub came_part : (reader held : Held) (put : List ℕ) (old new : List Box) (start mid now : Port) (dstart dnow : DiskState)
     → reader.bytes ≡ [] → Pulled reader held start mid → IsFrame held.bytes → Took put mid now
     → new ≡ (answers_read old (read_request (drop 2 held.bytes))).next
-    → Span dstart dnow (λ c. StandsForEitherBoxes text old new c × IsSameBehind (length old) dstart c)
-    → Came text held.bytes put old new start now dstart dnow
-came_part text reader held put old new start mid now dstart dnow fresh pulled whole took next during = record {
+    → Span dstart dnow (λ c. StandsForEitherBoxes old new c × IsSameBehind (length old) dstart c)
+    → Came held.bytes put old new start now dstart dnow
+came_part reader held put old new start mid now dstart dnow fresh pulled whole took next during = record {
   exchanges =
       took ∙ ap (option_map (taken put)) (pulled_held reader held start mid fresh pulled) ∙ then_took held.bytes put start.told;
   whole = whole;

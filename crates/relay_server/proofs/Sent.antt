@@ -3,18 +3,17 @@ use Rattle.std.proofs.Common.{◌≡◌, ◌⊎◌, inl, inr, ⊎_elim, ℕ, ◌
 use Rattle.std.specs.Prelude.{if◌then◌else◌}
 use Rattle.dr_disk.specs.State.{DiskState, IsLawful}
 use Rattle.dr_ports.specs.Wires.{Port}
-use Rattle.slot_store.specs.Records.{stored_record}
-use Rattle.slot_store.specs.Store.{Rests, SlotStore, content}
+use Rattle.slot_store.specs.Laws.{IsResting}
 use Rattle.relay_wire.specs.Replies.{absent, acked, box_full, stored}
 use Rattle.relay_wire.specs.Requests.{Asking, posts, fetches, acks}
 use Rattle.relay_core.specs.declared.limits.TheConstants.{EXCHANGE_LIMIT}
 use Rattle.relay_core.specs.Alone.{box_after, next_alone, replies_alone, reply_alone}
 use Rattle.relay_core.specs.Boxes.{Answer, Box, answer_of, becomes, has_number, is_full, stays, with_packet, without_number}
-use Rattle.relay_core.specs.Record.{box_text}
 use Rattle.relay_core.specs.Streams.{Served, BoxExchange, asks, replies}
 use Rattle.relay_core.proofs.Apart.{isolated_within}
 use Rattle.relay_core.proofs.Served.{served_nothing}
-use Rattle.relay_server.specs.Durable.{StandsForBoxes, StandsForEitherBoxes}
+use Rattle.relay_server.specs.Durable.{StandsForEitherBoxes}
+use Rattle.relay_server.specs.Reading.{StandsForBoxes}
 use Rattle.relay_server.specs.FrameByFrame.{AreAnswered, IsServerAtRest, IsMoment, StandsForSent, accepted, after_frames, between, is_accepting, none_yet, one_more, within}
 use Rattle.relay_server.proofs.Replacing.{ready_stands}
 
@@ -50,7 +49,7 @@ after_accepted box (t ∷ list) replied =
 
 own_accepted : (boxes : List Box) (front frames : List (List ℕ)) (c : List ℕ)
     → (front ≡ frames) ⊎ ((frame : List ℕ) × (front ≡ frames ++ frame ∷ []))
-    → StandsForBoxes box_text (after_frames boxes front).next c → StandsForSent boxes frames c
+    → StandsForBoxes (after_frames boxes front).next c → StandsForSent boxes frames c
 own_accepted boxes front frames c reach stands = record {
   front = front;
   reach = reach;
@@ -61,10 +60,10 @@ own_accepted boxes front frames c reach stands = record {
 -- ---- moments
 
 module _ {X Y : Type 0} (state : X → DiskState) (port : Y → Port) (lawful : (x : X) → IsLawful (state x))
-    (resting : (store : SlotStore) (c : List ℕ) → Rests store c → stored_record store.area c ≡ content store)
+    (resting : IsResting)
     (boxes : List Box) (start : X) (from : Y) where
   abbrev SoAnswered : List (List ℕ) → List Box → X → Y → Type 0
-  SoAnswered frames behind disk pipe = AreAnswered state port box_text boxes start from frames behind disk pipe
+  SoAnswered frames behind disk pipe = AreAnswered state port boxes start from frames behind disk pipe
 
   boxes_are : (frames : List (List ℕ)) (behind : List Box) (disk : X) (pipe : Y) → SoAnswered frames behind disk pipe
       → behind ≡ (after_frames boxes frames).next
@@ -72,7 +71,7 @@ module _ {X Y : Type 0} (state : X → DiskState) (port : Y → Port) (lawful : 
   boxes_are frames behind disk pipe (one_more front frame before after last next old later so came is rests) = is
 
   rests_then : (frames : List (List ℕ)) (behind : List Box) (disk : X) (pipe : Y) → SoAnswered frames behind disk pipe
-      → IsServerAtRest box_text behind (state disk)
+      → IsServerAtRest behind (state disk)
   rests_then frames behind disk pipe (none_yet rests) = rests
   rests_then frames behind disk pipe (one_more front frame before after last next old later so came is rests) = rests
 
@@ -81,10 +80,10 @@ module _ {X Y : Type 0} (state : X → DiskState) (port : Y → Port) (lawful : 
   stands_between frames behind disk pipe so c left =
       let rests = rests_then frames behind disk pipe so in
       own_accepted boxes frames frames c (inl refl)
-      (subst (λ (bs : List Box). StandsForBoxes box_text bs c) (boxes_are frames behind disk pipe so)
-      (ready_stands box_text (record { boxes = behind; stores = rests.stores }) (state disk) rests.ready resting c left))
+      (subst (λ (bs : List Box). StandsForBoxes bs c) (boxes_are frames behind disk pipe so)
+      (ready_stands (record { boxes = behind; stores = rests.stores }) (state disk) rests.ready resting c left))
 
-  pub moment_stands : (frames : List (List ℕ)) (c : List ℕ) → IsMoment state port box_text boxes start from frames c
+  pub moment_stands : (frames : List (List ℕ)) (c : List ℕ) → IsMoment state port boxes start from frames c
       → StandsForSent boxes frames c
   moment_stands frames c (between behind disk pipe so left) = stands_between frames behind disk pipe so c left
   moment_stands frames c (within frame put before after disk next pipe later so came is left) =
@@ -97,10 +96,10 @@ module _ {X Y : Type 0} (state : X → DiskState) (port : Y → Port) (lawful : 
       at_first : (state disk).image c → StandsForSent boxes frames c
       at_first old = stands_between frames before disk pipe so c old
 
-      either : StandsForEitherBoxes box_text before after c → StandsForSent boxes frames c
+      either : StandsForEitherBoxes before after c → StandsForSent boxes frames c
       either e = ⊎_elim
           (λ old. own_accepted boxes frames frames c (inl refl)
-          (subst (λ (bs : List Box). StandsForBoxes box_text bs c) (boxes_are frames before disk pipe so) old))
+          (subst (λ (bs : List Box). StandsForBoxes bs c) (boxes_are frames before disk pipe so) old))
           (λ new. own_accepted boxes (frames ++ frame ∷ []) frames c (inr (frame, refl))
-          (subst (λ (bs : List Box). StandsForBoxes box_text bs c) is new))
+          (subst (λ (bs : List Box). StandsForBoxes bs c) is new))
           e

@@ -17,7 +17,8 @@ use Rattle.relay_core.specs.Streams.{Exchange, Served, exchange_then, boxes_afte
 use Rattle.relay_core.proofs.Changed.{change}
 use Rattle.relay_core.proofs.Served.{served_nothing}
 use Rattle.relay_pipe.proofs.Exchanged.{both, nothing_yet}
-use Rattle.relay_server.specs.Durable.{ServerNow, StandsForBoxes}
+use Rattle.relay_server.specs.Durable.{ServerNow}
+use Rattle.relay_server.specs.Reading.{StandsForBoxes}
 use Rattle.relay_server.specs.Serving.{Exchanges, Came, reply_to, ReachedIn, ServedSoFar}
 use Rattle.relay_server.specs.Places.{SameBehind, IsSameBehind}
 use Rattle.relay_server.proofs.Behind.{behind_twice}
@@ -41,8 +42,8 @@ serves_frame most n boxes frame fs last lt is =
 
 -- ---- before the first round
 
-module _ (text : Box → List ℕ) (most : ℕ) (old : ServerNow) where
-  abbrev pub nothing_so_far : (start : Port) (dstart : DiskState) → Span dstart dstart (λ c. ReachedIn text most old.boxes [] c × IsSameBehind (length old.boxes) dstart c) → ServedSoFar text most old old.boxes start start dstart dstart 0
+module _ (most : ℕ) (old : ServerNow) where
+  abbrev pub nothing_so_far : (start : Port) (dstart : DiskState) → Span dstart dstart (λ c. ReachedIn most old.boxes [] c × IsSameBehind (length old.boxes) dstart c) → ServedSoFar most old old.boxes start start dstart dstart 0
   nothing_so_far start dstart span = record {
     frames = [];
     each = tt;
@@ -55,14 +56,14 @@ module _ (text : Box → List ℕ) (most : ℕ) (old : ServerNow) where
     boxes_count = refl;
   }
 
-  module _ (boxes : List Box) (start now : Port) (dstart dnow : DiskState) (n : ℕ) (so : ServedSoFar text most old boxes start now dstart dnow n) where
+  module _ (boxes : List Box) (start now : Port) (dstart dnow : DiskState) (n : ℕ) (so : ServedSoFar most old boxes start now dstart dnow n) where
     -- what all the frames so far are answered
     pub so_served : served_within most old.boxes so.frames ≡ ended_with so.exs boxes
     so_served =
         ap (served_within most old.boxes) (sym (append-nil so.frames)) ∙ so.ahead [] ∙ ap (prepend so.exs) (served_nothing (most - n) boxes)
         ∙ ap (λ (xs : List Exchange). ended_with xs boxes) (append-nil so.exs)
 
-    module _ (frame put : List ℕ) (next : List Box) (after : Port) (dafter : DiskState) (under : n < most) (came : Came text frame put boxes next now after dnow dafter) where
+    module _ (frame put : List ℕ) (next : List Box) (after : Port) (dafter : DiskState) (under : n < most) (came : Came frame put boxes next now after dnow dafter) where
       -- and with the frame
       pub with_frame : served_within most old.boxes (so.frames ++ frame ∷ []) ≡ ended_with (so.exs ++ exchange_of boxes frame ∷ []) next
       with_frame =
@@ -79,13 +80,13 @@ module _ (text : Box → List ℕ) (most : ℕ) (old : ServerNow) where
           let sized = subst (λ (n : ℕ). SameBehind n frame.0 c) so.boxes_count frame.2 in
           ⊎_elim (λ was. (frame.0, was, sized)) (λ left. (left.1.0, left.1.1, behind_twice (length old.boxes) left.1.0 frame.0 c left.1.2 sized)) (so.during.last frame.0 frame.1)
 
-      pub span_with : Span dstart dafter (λ c. ReachedIn text most old.boxes (so.frames ++ frame ∷ []) c × IsSameBehind (length old.boxes) dstart c)
+      pub span_with : Span dstart dafter (λ c. ReachedIn most old.boxes (so.frames ++ frame ∷ []) c × IsSameBehind (length old.boxes) dstart c)
       span_with = spans dstart dnow dafter _
           (widen dstart dnow _ _ (λ c r. (record { front = r.0.front; back = r.0.back ++ frame ∷ []; split = ap (λ (fs : List (List ℕ)). fs ++ frame ∷ []) r.0.split ∙ append_assoc r.0.front r.0.back (frame ∷ []); stands = r.0.stands }, r.1)) so.during)
           (widen dnow dafter _ _ (λ c e. (
             ⊎_elim
-                (λ before. record { front = so.frames; back = frame ∷ []; split = refl; stands = subst (λ (bs : List Box). StandsForBoxes text bs c) (sym (ap (λ (s : Served). s.next) so_served)) before })
-                (λ behind. record { front = so.frames ++ frame ∷ []; back = []; split = sym (append-nil (so.frames ++ frame ∷ [])); stands = subst (λ (bs : List Box). StandsForBoxes text bs c) (sym (ap (λ (s : Served). s.next) with_frame)) behind })
+                (λ before. record { front = so.frames; back = frame ∷ []; split = refl; stands = subst (λ (bs : List Box). StandsForBoxes bs c) (sym (ap (λ (s : Served). s.next) so_served)) before })
+                (λ behind. record { front = so.frames ++ frame ∷ []; back = []; split = sym (append-nil (so.frames ++ frame ∷ [])); stands = subst (λ (bs : List Box). StandsForBoxes bs c) (sym (ap (λ (s : Served). s.next) with_frame)) behind })
                 e.0,
             behind_with c e.1,
           )) came.during)
@@ -100,7 +101,7 @@ module _ (text : Box → List ℕ) (most : ℕ) (old : ServerNow) where
       count_with = ap length came.next ∙ (change boxes (read_request (drop 2 frame))).count ∙ so.boxes_count
 
       -- another round may follow
-      abbrev pub one_more_round : put ≡ reply_to boxes frame → is_last (read_request (drop 2 frame)) ≡ false → now.faults Flow ≤ after.faults Flow → ServedSoFar text most old next start after dstart dafter (n + 1)
+      abbrev pub one_more_round : put ≡ reply_to boxes frame → is_last (read_request (drop 2 frame)) ≡ false → now.faults Flow ≤ after.faults Flow → ServedSoFar most old next start after dstart dafter (n + 1)
       one_more_round is not_last later = record {
         frames = so.frames ++ frame ∷ [];
         each = whole_with;

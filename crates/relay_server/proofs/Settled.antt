@@ -6,23 +6,23 @@ use Rattle.dr_disk.specs.Spans.{IsQuiet}
 use Rattle.dr_disk.specs.State.{DiskState}
 use Rattle.slot_store.specs.Store.{SlotStore, content}
 use Rattle.relay_core.specs.Boxes.{Box}
-use Rattle.relay_core.specs.Record.{box_text}
 use Rattle.relay_server.specs.Durable.{IsServerReady, ServerNow}
 use Rattle.relay_server.specs.Filling.{AreFilled, HasBox}
 use Rattle.relay_server.specs.Looking.{HasSettled}
+use Rattle.relay_server.specs.Reading.{HasRecordOf}
 use Rattle.relay_server.proofs.Replacing.{with_stores}
 
-has_text : (n k : ℕ) (box : Box) (text : Option (List ℕ)) → k < n → HasBox n k box text → text ≡ Some (box_text box)
-has_text n k box None less has = absurd (omega (arith, less, has.0))
-has_text n k box (Some t) less has = ap (λ (x : List ℕ). Some x) has
+has_record : (n k : ℕ) (box : Box) (text : Option (List ℕ)) → k < n → HasBox n k box text → HasRecordOf box text
+has_record n k box None less has = absurd (omega (arith, less, has.0))
+has_record n k box (Some t) less has = has
 
-pub filled_ready : (boxes : List Box) (stores : List SlotStore) (disk : DiskState) → AreFilled (length boxes) boxes stores disk → IsServerReady box_text (with_stores boxes stores) disk
+pub filled_ready : (boxes : List Box) (stores : List SlotStore) (disk : DiskState) → AreFilled (length boxes) boxes stores disk → IsServerReady (with_stores boxes stores) disk
 filled_ready boxes stores disk filled = record {
   few = filled.few;
   count = filled.count;
   within = λ k inside. omega (arith, inside, filled.within);
   areas = filled.areas;
-  holds = λ k store box there boxed. has_text (length boxes) k box (content store) (slice_get_within boxes k box boxed) (filled.each k store box there boxed);
+  holds = λ k store box there boxed. has_record (length boxes) k box (content store) (slice_get_within boxes k box boxed) (filled.each k store box there boxed);
   rests = filled.rests;
 }
 

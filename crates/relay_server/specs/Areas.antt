@@ -8,8 +8,9 @@ use Rattle.slot_store.specs.Records.{stored_record}
 use Rattle.slot_store.specs.Store.{Rests, SlotStore, content}
 use Rattle.dr_disk.specs.Calls.{Unwritten}
 use Rattle.slot_store.specs.AtRest.{IsReadAtRest}
-use Rattle.relay_server.specs.Places.{area_of, SameBehind}
-use Rattle.relay_server.specs.Opening.{IsFirstDamaged, OfRead, area_read, box_fault}
+use Rattle.relay_server.specs.Places.{area_of, SameBehind, UnwrittenBehind}
+use Rattle.relay_server.specs.Reading.{AreNoWorse, area_read, box_fault}
+use Rattle.relay_server.specs.Opening.{IsFirstDamaged, OfRead}
 use Rattle.relay_server.specs.declared.errors.ServerOpenError.{ServerOpenError}
 use Rattle.relay_server.specs.declared.errors.ServerOpenError.TheVariants.{BoxName, Damaged, Memory, StoreFault}
 
@@ -33,14 +34,16 @@ IsAreaRefused k start now Memory = IsQuiet start now
 IsAreaRefused k start now (StoreFault call) = Rose (start.faults call) (now.faults call)
 IsAreaRefused k start now (Damaged area slot at) =
     (area ≡ k) × IsQuiet start now × ((s : List ℕ) → start.seen ≡ Some s → area_read k s ≡ damaged slot at)
+    × Unwritten start now
 IsAreaRefused k start now (BoxName j) = ⊥
 
--- Each of this many areas has the record that one image of that moment has there. What lies in none
--- of them is the same.
+-- Each of this many areas has the record that one image of that moment has there, and is read without
+-- damage where that is. What lies in none of them is the same.
 pub record IsLikeEntry (count : ℕ) (start : DiskState) (c : List ℕ) : Type 0 where
   pub entry : List ℕ
   pub image : start.image entry
   pub same : (k : ℕ) → k < count → stored_record (area_of k) c ≡ stored_record (area_of k) entry
+  pub undamaged : AreNoWorse count entry c
   pub outside : SameBehind count entry c
 
 -- what a read gives has each of this many areas at rest
@@ -62,11 +65,12 @@ pub record AreOpened (n count : ℕ) (stores : List SlotStore) (start now : Disk
   pub clean : (k : ℕ) (store : SlotStore) (text : List ℕ) → slice_get stores k ≡ Some store → content store ≡ Some text → box_fault text ≡ None
   pub rests : (k : ℕ) (store : SlotStore) → slice_get stores k ≡ Some store → Always (Rests store) now
   pub read : OfRead start (λ s. (k : ℕ) (store : SlotStore) → slice_get stores k ≡ Some store → area_read k s ≡ store_reading (content store))
-  pub untouched : (s r : List ℕ) → start.seen ≡ Some s → now.seen ≡ Some r → SameBehind n s r
+  pub untouched : UnwrittenBehind n start now
 
--- why they weren't
+-- Why they weren't. Nothing was written to a damaged area, nor to those after it.
 abbrev pub AreRefused : ℕ → DiskState → DiskState → ServerOpenError → Type 0
 AreRefused count start now Memory = IsQuiet start now
 AreRefused count start now (StoreFault call) = Rose (start.faults call) (now.faults call)
 AreRefused count start now (Damaged area slot at) = (area < count) × IsQuiet start now × OfRead start (IsFirstDamaged count area slot at)
+    × UnwrittenBehind area start now
 AreRefused count start now (BoxName k) = ⊥

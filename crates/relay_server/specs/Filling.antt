@@ -1,21 +1,22 @@
 -- The boxes are loaded, and each area without a record gets an empty box's.
-use Rattle.std.specs.Prelude.{◌≡◌, ◌≢◌, ℕ, ◌<◌, ◌≤◌, Bool, true, false, List, length, slice_get, Option, Some, None, Result, Ok, OnOk}
+use Rattle.std.specs.Prelude.{◌≡◌, ◌≢◌, ℕ, ◌<◌, ◌≤◌, Bool, true, false, List, length, slice_get, Option, Some, None, Result, OnOk}
 use Rattle.dr_disk.specs.declared.call.Call.{Call}
 use Rattle.dr_disk.specs.Spans.{IsQuiet, Span}
 use Rattle.dr_disk.specs.State.{DiskState, Always}
 use Rattle.slot_store.specs.Records.{stored_record}
 use Rattle.slot_store.specs.Store.{Rests, SlotStore, content}
 use Rattle.relay_core.specs.Boxes.{Box, empty_box}
-use Rattle.relay_core.specs.Record.{box_read, box_text}
+use Rattle.relay_core.specs.Record.{IsRecordOf}
 use Rattle.relay_core.specs.declared.limits.TheConstants.{RELAY_LIMIT}
 use Rattle.relay_server.specs.Durable.{FailsByCall}
 use Rattle.relay_server.specs.Places.{area_of, HasRoomForAreas, SameBehind}
 use Rattle.relay_server.specs.Opening.{StaysOrBegins}
+use Rattle.relay_server.specs.Reading.{AreNoWorse}
 
 -- a box is the one of its store's record, and has the name that it had; without a record it is as it was
 abbrev pub IsBoxKept : Box → Box → Option (List ℕ) → Type 0
 IsBoxKept was box None = box ≡ was
-IsBoxKept was box (Some text) = (box_read text ≡ Ok box) × (box.name ≡ was.name) × (text ≡ box_text box)
+IsBoxKept was box (Some text) = IsRecordOf box text × (box.name ≡ was.name)
 
 -- the first n boxes were loaded
 pub record AreLoaded (n : ℕ) (old boxes : List Box) (stores : List SlotStore) : Type 0 where
@@ -26,7 +27,7 @@ pub record AreLoaded (n : ℕ) (old boxes : List Box) (stores : List SlotStore) 
 -- a store's record is that of a box of another name
 abbrev pub IsOthers : Box → Option (List ℕ) → Type 0
 IsOthers was None = ⊥
-IsOthers was (Some text) = (box : Box) × (box_read text ≡ Ok box) × (box.name ≢ was.name)
+IsOthers was (Some text) = (box : Box) × IsRecordOf box text × (box.name ≢ was.name)
 
 -- the first store with the record of another box
 pub record IsFirstOthers (k : ℕ) (old : List Box) (stores : List SlotStore) : Type 0 where
@@ -42,10 +43,10 @@ IsLoadedAt k old new text =
 
 -- ---- empty boxes
 
--- a store has its box's record; from the n-th on it may have none, and its box is empty then
+-- a store has a record of its box; from the n-th on it may have none, and its box is empty then
 abbrev pub HasBox : ℕ → ℕ → Box → Option (List ℕ) → Type 0
 HasBox n k box None = (n ≤ k) × (box ≡ empty_box box.name)
-HasBox n k box (Some text) = text ≡ box_text box
+HasBox n k box (Some text) = IsRecordOf box text
 
 pub record AreFilled (n : ℕ) (boxes : List Box) (stores : List SlotStore) (disk : DiskState) : Type 0 where
   pub few : length boxes ≤ RELAY_LIMIT
@@ -59,6 +60,7 @@ pub record IsFilling (boxes : List Box) (start : DiskState) (c : List ℕ) : Typ
   pub entry : List ℕ
   pub image : start.image entry
   pub each : (k : ℕ) (box : Box) → slice_get boxes k ≡ Some box → StaysOrBegins box.name (stored_record (area_of k) entry) (stored_record (area_of k) c)
+  pub undamaged : AreNoWorse (length boxes) entry c
   pub outside : SameBehind (length boxes) entry c
 
 -- ---- what a call left

@@ -11,18 +11,18 @@ use Rattle.relay_wire.specs.Replies.{Replied, stored, acked}
 use Rattle.relay_core.specs.declared.limits.TheConstants.{EXCHANGE_LIMIT}
 use Rattle.relay_core.specs.Alone.{box_after}
 use Rattle.relay_core.specs.Boxes.{Box, box_of}
-use Rattle.relay_core.specs.Record.{box_text}
 use Rattle.relay_core.specs.Streams.{Served, BoxExchange, asks, served_within, told}
 use Rattle.slot_store.specs.Store.{SlotStore}
-use Rattle.relay_server.specs.Durable.{IsServerReady, ServerNow, StandsForBoxes}
+use Rattle.relay_server.specs.Durable.{IsServerReady, ServerNow}
+use Rattle.relay_server.specs.Reading.{StandsForBoxes}
 use Rattle.relay_server.specs.Serving.{Came, IsServed, LeavesCounts, reply_to}
 use Rattle.relay_server.specs.declared.serving.Ended.{Ended}
 use Rattle.relay_server.specs.declared.serving.ServeFault.{ServeFault}
 
 -- each image is at rest for these boxes
-pub record IsServerAtRest (text : Box → List ℕ) (boxes : List Box) (disk : DiskState) : Type 0 where
+pub record IsServerAtRest (boxes : List Box) (disk : DiskState) : Type 0 where
   pub stores : List SlotStore
-  pub ready : IsServerReady text (record { boxes = boxes; stores = stores }) disk
+  pub ready : IsServerReady (record { boxes = boxes; stores = stores }) disk
 
 -- these frames, answered by these boxes
 abbrev pub after_frames : List Box → List (List ℕ) → Served
@@ -30,38 +30,38 @@ after_frames boxes frames = served_within EXCHANGE_LIMIT boxes frames
 
 -- These frames came, and before the next one came the reply to each was sent whole, and the disk at rest for the boxes
 -- after it. While one is answered each image stands for the boxes before it, or for those after it.
-pub data AreAnswered {X Y : Type 0} (state : X → DiskState) (port : Y → Port) (text : Box → List ℕ) (boxes : List Box)
+pub data AreAnswered {X Y : Type 0} (state : X → DiskState) (port : Y → Port) (boxes : List Box)
     (start : X) (from : Y) : List (List ℕ) → List Box → X → Y → Type 0 where
-  none_yet : IsServerAtRest text boxes (state start) → AreAnswered state port text boxes start from [] boxes start from
+  none_yet : IsServerAtRest boxes (state start) → AreAnswered state port boxes start from [] boxes start from
   one_more : (frames : List (List ℕ)) (frame : List ℕ) (before after : List Box) (disk next : X) (pipe later : Y)
-      → AreAnswered state port text boxes start from frames before disk pipe
-      → Came text frame (reply_to before frame) before after (port pipe) (port later) (state disk) (state next)
-      → after ≡ (after_frames boxes (frames ++ frame ∷ [])).next → IsServerAtRest text after (state next)
-      → AreAnswered state port text boxes start from (frames ++ frame ∷ []) after next later
+      → AreAnswered state port boxes start from frames before disk pipe
+      → Came frame (reply_to before frame) before after (port pipe) (port later) (state disk) (state next)
+      → after ≡ (after_frames boxes (frames ++ frame ∷ [])).next → IsServerAtRest after (state next)
+      → AreAnswered state port boxes start from (frames ++ frame ∷ []) after next later
 
 -- A whole connection, by the frames whose replies were sent whole, and what followed. That is at most a part of a frame,
 -- and nothing new could be left on the disk; or one frame more. Of its reply nothing was sent, or a part once the disk was
 -- at rest for the boxes after it.
-pub data IsInOrder {X Y : Type 0} (state : X → DiskState) (port : Y → Port) (text : Box → List ℕ) (boxes : List Box)
+pub data IsInOrder {X Y : Type 0} (state : X → DiskState) (port : Y → Port) (boxes : List Box)
     (got : List ℕ) (start now : X) (from door : Y) : Type 0 where
   ended_behind : (behind : List Box) (disk : X) (pipe : Y) (part : List ℕ)
-      → AreAnswered state port text boxes start from (frames_of got) behind disk pipe
+      → AreAnswered state port boxes start from (frames_of got) behind disk pipe
       → Exchanges part [] (port pipe) (port door)
-      → Span (state disk) (state now) (λ c. ⊥) → IsServerAtRest text behind (state now)
-      → IsInOrder state port text boxes got start now from door
+      → Span (state disk) (state now) (λ c. ⊥) → IsServerAtRest behind (state now)
+      → IsInOrder state port boxes got start now from door
   broke_off_in : (frames : List (List ℕ)) (frame put rest : List ℕ) (before after : List Box) (disk : X) (pipe : Y)
       → frames_of got ≡ frames ++ frame ∷ []
-      → AreAnswered state port text boxes start from frames before disk pipe
-      → Came text frame put before after (port pipe) (port door) (state disk) (state now)
+      → AreAnswered state port boxes start from frames before disk pipe
+      → Came frame put before after (port pipe) (port door) (state disk) (state now)
       → after ≡ (after_frames boxes (frames ++ frame ∷ [])).next → reply_to before frame ≡ put ++ rest
-      → (put ≡ []) ⊎ IsServerAtRest text after (state now)
-      → IsInOrder state port text boxes got start now from door
+      → (put ≡ []) ⊎ IsServerAtRest after (state now)
+      → IsInOrder state port boxes got start now from door
 
 -- one call of `serve`, as a whole and frame by frame, and what it counts
-pub record IsServedInOrder {X Y : Type 0} (state : X → DiskState) (port : Y → Port) (text : Box → List ℕ)
+pub record IsServedInOrder {X Y : Type 0} (state : X → DiskState) (port : Y → Port)
     (old new : ServerNow) (start now : X) (from door : Y) (result : Result Ended ServeFault) : Type 0 where
-  pub served : IsServed text old new (port from) (port door) (state start) (state now) result
-  pub in_order : IsInOrder state port text old.boxes served.got start now from door
+  pub served : IsServed old new (port from) (port door) (state start) (state now) result
+  pub in_order : IsInOrder state port old.boxes served.got start now from door
   pub counts : LeavesCounts state port start now from door result
 
 -- ---- a moment
@@ -72,16 +72,16 @@ WasLeft a b c = b.since a.moment c ⊎ b.image c
 
 -- These bytes may have been left at a moment at which the replies to these frames were sent whole, and no other: at rest,
 -- or while the next frame was answered and its reply sent.
-pub data IsMoment {X Y : Type 0} (state : X → DiskState) (port : Y → Port) (text : Box → List ℕ) (boxes : List Box)
+pub data IsMoment {X Y : Type 0} (state : X → DiskState) (port : Y → Port) (boxes : List Box)
     (start : X) (from : Y) (frames : List (List ℕ)) (c : List ℕ) : Type 0 where
   between : (behind : List Box) (disk : X) (pipe : Y)
-      → AreAnswered state port text boxes start from frames behind disk pipe → (state disk).image c
-      → IsMoment state port text boxes start from frames c
+      → AreAnswered state port boxes start from frames behind disk pipe → (state disk).image c
+      → IsMoment state port boxes start from frames c
   within : (frame put : List ℕ) (before after : List Box) (disk next : X) (pipe later : Y)
-      → AreAnswered state port text boxes start from frames before disk pipe
-      → Came text frame put before after (port pipe) (port later) (state disk) (state next)
+      → AreAnswered state port boxes start from frames before disk pipe
+      → Came frame put before after (port pipe) (port later) (state disk) (state next)
       → after ≡ (after_frames boxes (frames ++ frame ∷ [])).next → WasLeft (state disk) (state next) c
-      → IsMoment state port text boxes start from frames c
+      → IsMoment state port boxes start from frames c
 
 -- a packet was kept, or dropped
 abbrev pub is_accepting : Replied → Bool
@@ -97,6 +97,6 @@ accepted list = filter (λ t. is_accepting t.reply) list
 pub record StandsForSent (boxes : List Box) (frames : List (List ℕ)) (c : List ℕ) : Type 0 where
   pub front : List (List ℕ)
   pub reach : (front ≡ frames) ⊎ ((frame : List ℕ) × (front ≡ frames ++ frame ∷ []))
-  pub stands : StandsForBoxes box_text (after_frames boxes front).next c
+  pub stands : StandsForBoxes (after_frames boxes front).next c
   pub alone : (name : List ℕ) → box_of name (after_frames boxes front).next
       ≡ box_after (box_of name boxes) (asks (accepted (told name (after_frames boxes front).exchanges)))

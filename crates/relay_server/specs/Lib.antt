@@ -1,4 +1,5 @@
 pub mod Places
+pub mod Reading
 pub mod Durable
 pub mod Opening
 pub mod Areas
@@ -8,3 +9,4 @@ pub mod Serving
 pub mod FrameByFrame
 pub mod Limits
 pub mod LowerHalves
+pub mod Reopening

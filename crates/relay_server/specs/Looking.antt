@@ -3,7 +3,6 @@ use Rattle.std.specs.Prelude.{◌≡◌, ℕ, List, length, Result, IfErr, IfOk}
 use Rattle.dr_disk.specs.declared.call.Call.{Call}
 use Rattle.dr_disk.specs.Spans.{IsQuiet, Span}
 use Rattle.dr_disk.specs.State.{DiskState}
-use Rattle.relay_core.specs.Record.{box_text}
 use Rattle.relay_server.specs.Areas.{HasLooked}
 use Rattle.relay_server.specs.Durable.{FailsByCall, IsServerReady, ServerNow}
 use Rattle.relay_server.specs.Filling.{AreFilled, IsFilling}
@@ -30,7 +29,7 @@ pub record LooksAt (names : List (List ℕ)) (start now : DiskState)
 -- It was settled, and is ready with the same boxes.
 pub record HasSettled (looked server : ServerNow) (start now : DiskState) : Type 0 where
   pub boxes : server.boxes ≡ looked.boxes
-  pub ready : IsServerReady box_text server now
+  pub ready : IsServerReady server now
   pub quiet : IsQuiet start now
 
 -- A look was settled: what it gave is ready, empty boxes' records were put meanwhile, and an error is

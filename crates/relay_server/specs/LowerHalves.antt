@@ -3,7 +3,7 @@ use Rattle.std.specs.Prelude.{◌≡◌, ◌<◌, ◌≤◌, ◌+◌, ℕ, List,
 use Rattle.slot_store.specs.Areas.{Area}
 use Rattle.slot_store.specs.Reading.{area_reading}
 use Rattle.relay_core.specs.declared.limits.TheConstants.{RELAY_LIMIT}
-use Rattle.relay_server.specs.Opening.{IsUndamagedReading, area_read, box_fault}
+use Rattle.relay_server.specs.Reading.{IsUndamagedReading, area_read, box_fault}
 use Rattle.relay_server.specs.Places.{halves_size}
 use Rattle.relay_server.specs.declared.limits.TheConstants.{HALF_PAGES, HALF_SIZE, RECORD_PAGES, UPPER_START}
 

@@ -1,7 +1,7 @@
 -- Where the boxes of a relay lie on its disk: each has an area of two halves.
-use Rattle.std.specs.Prelude.{◌≡◌, ◌<◌, ◌≤◌, ◌+◌, ◌*◌, ℕ, List, Vec, length, slice_index}
+use Rattle.std.specs.Prelude.{◌≡◌, ◌<◌, ◌≤◌, ◌+◌, ◌*◌, ℕ, List, Vec, Some, length, slice_index}
 use Rattle.dr_base.specs.declared.limits.TheConstants.{PAGE}
-use Rattle.dr_disk.specs.State.{DiskState}
+use Rattle.dr_disk.specs.State.{Always, DiskState}
 use Rattle.slot_store.specs.Areas.{Area, HasRecordMemory, IsOutsideArea}
 use Rattle.relay_core.specs.declared.limits.TheConstants.{RELAY_LIMIT}
 use Rattle.relay_server.specs.declared.limits.TheConstants.{BOX_PAGES, HALF_SIZE, RECORD_PAGES, UPPER_START}
@@ -44,3 +44,9 @@ pub record SameBehind (n : ℕ) (d c : List ℕ) : Type 0 where
 -- what lies in none of this many areas is as an image of that moment has it
 abbrev pub IsSameBehind : ℕ → DiskState → List ℕ → Type 0
 IsSameBehind n start c = (d : List ℕ) × start.image d × SameBehind n d c
+
+-- Nothing was written but in this many areas: all else is as it was, in each image and in what a
+-- read gives.
+pub record UnwrittenBehind (n : ℕ) (start now : DiskState) : Type 0 where
+  pub read : (s r : List ℕ) → start.seen ≡ Some s → now.seen ≡ Some r → SameBehind n s r
+  pub images : Always (IsSameBehind n start) now

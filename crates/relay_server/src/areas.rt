@@ -9,7 +9,7 @@ ghost use Rattle.slot_store.specs.Store.{HasArea};
 ghost use Rattle.relay_core.specs.declared.limits.TheConstants.{RELAY_LIMIT};
 ghost use Rattle.relay_server.specs.Areas.{AreOpened, AreRefused, HasLooked, IsAreaOpened, IsAreaRefused};
 ghost use Rattle.relay_server.specs.Places.{HasRoomForAreas, area_of};
-ghost use Rattle.relay_server.specs.Opening.{box_fault};
+ghost use Rattle.relay_server.specs.Reading.{box_fault};
 
 use crate::errors::ServerOpenError;
 use crate::limits::{BOX_PAGES, HALF_SIZE, RECORD_PAGES, UPPER_START};

@@ -2,12 +2,13 @@
 
 ghost use Rattle.std.specs.Prelude.{◌≡◌, ◌≢◌, ◌<◌, ◌≤◌, ◌+◌, ◌^◌, ℕ, length, take, slice_get, Option, OnOk, IfOk, is_ok, [], Bool};
 ghost use Rattle.dr_disk.specs.State.{Always};
+ghost use Rattle.dr_disk.specs.Called.{Called, itself};
 ghost use Rattle.dr_disk.specs.Spans.{IsQuiet, Span};
 ghost use Rattle.slot_store.specs.Areas.{HasText};
-ghost use Rattle.slot_store.specs.Store.{HasArea, Rests, SlotStore};
+ghost use Rattle.slot_store.specs.Stops.{calls_of};
+ghost use Rattle.slot_store.specs.Store.{HasArea, Rests, SlotStore, content};
 ghost use Rattle.relay_wire.specs.Frames.{IsFrame};
 ghost use Rattle.relay_wire.specs.declared.limits.TheConstants.{FRAME_LIMIT};
-ghost use Rattle.relay_core.specs.Record.{box_text};
 ghost use Rattle.relay_server.specs.Durable.{FailsByCall, IsReplaced};
 ghost use Rattle.relay_server.specs.declared.limits.TheConstants.{RECORD_PAGES};
 ghost use Rattle.relay_server.specs.FrameByFrame.{IsServedInOrder};
@@ -65,6 +66,9 @@ pub(crate) fn replace_at<D: Disk>(
     ensures room { HasBoxMemory text.new }
     ensures fault { FailsByCall (D.state disk.old) (D.state disk.new) result }
     ensures quiet { OnOk result (IsQuiet (D.state disk.old) (D.state disk.new)) }
+    ensures calls { (store : SlotStore) → slice_get stores.old place ≡ Option.Some store
+        → Called (calls_of (content store) (Option.Some (take len text.old.items))) itself
+        (D.state disk.old) (D.state disk.new) result }
 {
     match stores[place].replace(disk, text, len) {
         Ok(()) => Ok(()),
@@ -73,15 +77,16 @@ pub(crate) fn replace_at<D: Disk>(
 }
 
 impl DurableBoxes {
-    /// Answers one frame: what a reply says is on the disk before the reply is there.
+    /// Answers one frame: what a reply says is on the disk before the reply is there. A box that
+    /// changes costs the calls of one replacement, and a request that changes none costs no call.
     pub fn answer<D: Disk>(
         &mut self,
         disk: &mut D,
         frame: &Frame<'_>,
         out: &mut [u8],
     ) -> Result<Answered, Call>
-        requires { CanAnswer box_text self.old (D.state disk.old) out.old }
-        ensures { AnswersFrame box_text frame.now.bytes.now self.old self.new (D.state disk.old)
+        requires { CanAnswer self.old (D.state disk.old) out.old }
+        ensures { AnswersFrame frame.now.bytes.now self.old self.new (D.state disk.old)
             (D.state disk.new) out.old out.new result }
     {
         locality();
@@ -104,9 +109,9 @@ impl DurableBoxes {
         reader: &mut FrameReader,
         out: &mut [u8],
     ) -> Result<Answered, Call>
-        requires can { CanAnswer box_text self.old (D.state disk.old) out.old }
+        requires can { CanAnswer self.old (D.state disk.old) out.old }
         requires whole { IsFrame reader.old.bytes }
-        ensures answers { AnswersFrame box_text reader.old.bytes self.old self.new
+        ensures answers { AnswersFrame reader.old.bytes self.old self.new
             (D.state disk.old) (D.state disk.new) out.old out.new result }
         ensures given { reader.new.bytes ≡ [] }
         ensures place { reader.new.place ≡ reader.old.place + length reader.old.bytes }
@@ -125,10 +130,10 @@ impl DurableBoxes {
         reader: &mut FrameReader,
         out: &mut [u8],
     ) -> Result<Round, ServeFault>
-        requires can { CanAnswer box_text self.old (D.state disk.old) out.old }
+        requires can { CanAnswer self.old (D.state disk.old) out.old }
         requires fresh { reader.old.bytes ≡ [] }
         requires ends { reader.old.place + FRAME_LIMIT < 2 ^ 64 }
-        ensures rounds { Rounds box_text self.old self.new (P.port pipe.old) (P.port pipe.new)
+        ensures rounds { Rounds self.old self.new (P.port pipe.old) (P.port pipe.new)
             (D.state disk.old) (D.state disk.new) result }
         ensures counts { LeavesCounts D.state P.port disk.old disk.new pipe.old pipe.new result }
         ensures fresh { IfOk result (λ r. (last : Bool) → r ≡ Round.Answered last
@@ -159,8 +164,8 @@ impl DurableBoxes {
         reader: &mut FrameReader,
         out: &mut [u8],
     ) -> Result<Ended, ServeFault>
-        requires { CanAnswer box_text self.old (D.state disk.old) out.old }
-        ensures { IsServedInOrder D.state P.port box_text self.old self.new disk.old disk.new
+        requires { CanAnswer self.old (D.state disk.old) out.old }
+        ensures { IsServedInOrder D.state P.port self.old self.new disk.old disk.new
             pipe.old pipe.new result }
     {
         reader.clear();

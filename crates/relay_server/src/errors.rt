@@ -10,7 +10,7 @@ pub enum ServerOpenError {
     #[error("out of memory")]
     Memory,
     /// A call on the disk failed, of this kind.
-    #[error("a call on the disk failed")]
+    #[error("a call on the disk failed: {call:?}")]
     StoreFault { call: Call },
     /// What was read of an area is no store's with a box: the table, 0 or 1, and the first place in
     /// it that no record's table has, or 4,096 and the first place in the record's pages. Nothing

@@ -4,13 +4,13 @@ ghost use Rattle.std.specs.Prelude.{◌≡◌, ◌<◌, ◌≤◌, ◌+◌, ℕ,
 ghost use Rattle.slot_store.specs.Store.{SlotStore, content};
 ghost use Rattle.relay_core.specs.declared.limits.TheConstants.{RELAY_LIMIT};
 ghost use Rattle.relay_server.specs.Filling.{AreFilled, AreLoaded, Fills, IsFirstOthers, LoadsAt};
-ghost use Rattle.relay_server.specs.Opening.{box_fault};
+ghost use Rattle.relay_server.specs.Reading.{box_fault};
 ghost use Rattle.relay_server.specs.Places.{HasBoxMemory};
 
 use crate::answering::write_text;
 use crate::durable::replace_at;
 use dr_disk::{Call, Disk};
-use relay_core::{Loaded, Relay, records};
+use relay_core::{Loaded, Relay};
 use slot_store::{SlotStore, locality, resting};
 
 /// Loads the box at a place from a record, and answers whether that has its name.
@@ -19,7 +19,6 @@ fn load_record(relay: &mut Relay, place: usize, text: &[u8]) -> bool
     requires clean { box_fault text.now ≡ Option.None }
     ensures { LoadsAt place relay.old relay.new (Option.Some text.now) result }
 {
-    records();
     match relay.load(place, text) {
         Loaded::Taken => true,
         Loaded::OtherName => false,

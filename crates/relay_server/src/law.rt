@@ -1,10 +1,14 @@
-//! The laws of what a crash leaves, and of disks of lower halves alone.
+//! The laws of what a crash leaves, of opening after it, and of disks of lower halves alone.
 
-ghost use Rattle.std.specs.Prelude.{List, ℕ};
+ghost use Rattle.std.specs.Prelude.{◌≡◌, List, Option, length, slice_get, ℕ};
+ghost use Rattle.dr_disk.specs.State.{Always};
 ghost use Rattle.relay_core.specs.Boxes.{Box};
-ghost use Rattle.relay_core.specs.Record.{box_text};
 ghost use Rattle.relay_server.specs.FrameByFrame.{IsMoment, StandsForSent};
+ghost use Rattle.relay_server.specs.Durable.{IsServerReady, ServerNow};
 ghost use Rattle.relay_server.specs.LowerHalves.{ReadsLowerHalves};
+ghost use Rattle.relay_server.specs.Opening.{IsOpening};
+ghost use Rattle.relay_server.specs.Reading.{AreUndamaged, KeepsUndamaged, StandsForBoxes};
+ghost use Rattle.relay_server.specs.Reopening.{OpensAgain, ReadsBoxes, StaysUndamaged, names_of_boxes};
 ghost use Rattle.relay_server.specs.Serving.{Reached, StandsForPart};
 
 use dr_disk::Disk;
@@ -17,11 +21,41 @@ use slot_store::{resting, widening};
 /// At a moment at which the replies to the first n frames were sent whole, and no other, this is
 /// the box after its own accepted requests among these n frames, or among the first n + 1.
 pub fn crashes<D: Disk, P: Pipe>()
-    ensures whenever { (boxes : List Box) (got c : List ℕ) → Reached box_text boxes got c
+    ensures whenever { (boxes : List Box) (got c : List ℕ) → Reached boxes got c
         → StandsForPart boxes got c }
     ensures moment { (boxes : List Box) (start : D) (from : P) (frames : List (List ℕ)) (c : List ℕ)
         →
-        IsMoment D.state P.port box_text boxes start from frames c → StandsForSent boxes frames c }
+        IsMoment D.state P.port boxes start from frames c → StandsForSent boxes frames c }
+{
+    resting();
+}
+
+/// No crash leaves damage: over connections, failing calls, crashes and openings in any order, where
+/// each area is read without damage in each image of the first moment, it is so at every moment.
+/// What lies between two moments is what the calls' clauses say of crashes: an opening leaves no
+/// area damaged that wasn't, and a connection none at all.
+pub fn stays_undamaged<D: Disk>(moments: &[D])
+    ensures opening { (names : List (List ℕ)) (start : D) (c : List ℕ)
+        → IsOpening names (D.state start) c
+        → KeepsUndamaged (length names) (D.state start) c }
+    ensures serving { (boxes : List Box) (got c : List ℕ) → Reached boxes got c
+        → AreUndamaged (length boxes) c }
+    ensures moments { (count n : ℕ) (a : D) → StaysUndamaged D.state count moments.now
+        → slice_get moments.now n ≡ Option.Some a → Always (AreUndamaged count) (D.state a) }
+{}
+
+/// Boxes that stand are opened again. They stand in each image of a disk at rest, and in what a
+/// crash leaves of a connection, or of an opening of a disk on which they stood. Where a read gives
+/// them, an opening has just these boxes, and is refused only for want of memory, or where a call
+/// on the disk failed.
+pub fn opens_again<D: Disk>(before: &D, after: &D)
+    ensures at_rest { (server : ServerNow) → IsServerReady server (D.state before.now)
+        → Always (StandsForBoxes server.boxes) (D.state before.now) }
+    ensures opening { (boxes : List Box) (c : List ℕ)
+        → Always (StandsForBoxes boxes) (D.state before.now)
+        → IsOpening (names_of_boxes boxes) (D.state before.now) c → StandsForBoxes boxes c }
+    ensures opens { (boxes : List Box) → ReadsBoxes boxes (D.state before.now)
+        → OpensAgain boxes (D.state before.now) (D.state after.now) }
 {
     resting();
 }

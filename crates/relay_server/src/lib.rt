@@ -6,18 +6,21 @@
 //! ```rust
 //! use relay_server::Server;
 //!
-//! let mut server = Server::open(alloc, &mut disk, &names)?;
+//! let mut server = Server::open(alloc, &mut disk, &specs)?;
 //! let ended = server.serve(&mut disk, &mut pipe)?; // how many frames were answered
 //! ```
 #![tactic(auto)]
 
 pub use durable::DurableBoxes;
 pub use errors::ServerOpenError;
-pub use law::{crashes, lower_halves};
-pub use limits::{HALF_SIZE, UPPER_START, limits_in_numbers};
-pub use relay_core::Answered;
+pub use limits::{HALF_SIZE, UPPER_START};
+pub use relay_core::{Answered, BoxSpec};
 pub use server::{Looked, Server};
 pub use serving::{Ended, Round, ServeFault};
+
+// Laws: functions without code.
+pub use law::{crashes, lower_halves, opens_again, stays_undamaged};
+pub use limits::limits_in_numbers;
 
 mod answering;
 mod areas;

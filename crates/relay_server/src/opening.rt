@@ -2,6 +2,7 @@
 
 ghost use Rattle.std.specs.Prelude.{◌≡◌, ◌≤◌, map, length, IfOk};
 ghost use Rattle.relay_core.specs.Boxes.{empty_box};
+ghost use Rattle.relay_core.specs.Specs.{names_of};
 ghost use Rattle.relay_server.specs.Areas.{HasLooked};
 ghost use Rattle.relay_server.specs.Looking.{IsUnsettled, LooksAt, Settles};
 ghost use Rattle.relay_server.specs.Places.{HasRoomFor};
@@ -11,13 +12,12 @@ use crate::durable::DurableBoxes;
 use crate::errors::ServerOpenError;
 use crate::filling::{fill_areas, load_boxes};
 use dr_disk::{Call, Disk};
-use relay_core::Relay;
-use relay_wire::Name;
+use relay_core::{BoxSpec, Relay};
 use slot_store::{locality, readings, record_memory};
 use std::alloc::Global;
 
 impl DurableBoxes {
-    /// Looks at the boxes of these names, 1 to 16 and no two alike: each lives in the area of its
+    /// Looks at the boxes of these specs, 1 to 16 and no two of one name: each lives in the area of its
     /// place. The areas are opened in order, and then their records are loaded. No record is put.
     ///
     /// `Damaged` exactly where an area that was read is damaged, and `BoxName` exactly where none
@@ -27,20 +27,20 @@ impl DurableBoxes {
     pub fn look<D: Disk>(
         alloc: Global,
         disk: &mut D,
-        names: &[Name],
+        specs: &[BoxSpec],
     ) -> Result<DurableBoxes, ServerOpenError>
-        requires { HasRoomFor names.now (D.state disk.old) }
-        ensures { LooksAt names.now (D.state disk.old) (D.state disk.new) result }
+        requires { HasRoomFor (names_of specs.now) (D.state disk.old) }
+        ensures { LooksAt (names_of specs.now) (D.state disk.old) (D.state disk.new) result }
     {
         locality();
         readings();
-        let Ok(mut relay) = Relay::new(alloc, names) else {
+        let Ok(mut relay) = Relay::new(alloc, specs) else {
             return Err(ServerOpenError::Memory);
         };
         let Ok(text) = record_memory(alloc, FIRST_AREA) else {
             return Err(ServerOpenError::Memory);
         };
-        let stores = match open_areas(alloc, disk, names.len()) {
+        let stores = match open_areas(alloc, disk, specs.len()) {
             Ok(stores) => stores,
             Err(error) => return Err(error),
         };

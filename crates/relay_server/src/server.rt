@@ -2,7 +2,7 @@
 
 ghost use Rattle.std.specs.Prelude.{◌≡◌, ◌≤◌, length, IfErr, IfOk};
 ghost use Rattle.dr_disk.specs.Spans.{Span};
-ghost use Rattle.relay_core.specs.Record.{box_text};
+ghost use Rattle.relay_core.specs.Specs.{names_of};
 ghost use Rattle.relay_server.specs.Durable.{IsServerReady};
 ghost use Rattle.relay_server.specs.Looking.{IsUnsettled, LooksAt, Settles};
 ghost use Rattle.relay_server.specs.Opening.{IsServerOpened, IsOpening, IsServerUnopened};
@@ -15,7 +15,8 @@ use crate::errors::ServerOpenError;
 use crate::serving::{Ended, ServeFault};
 use dr_disk::{Call, Disk};
 use dr_ports::Pipe;
-use relay_wire::{FRAME_LIMIT, FrameReader, Name};
+use relay_core::BoxSpec;
+use relay_wire::{FRAME_LIMIT, FrameReader};
 use std::alloc::{AllocError, Global};
 use std::marker::Model;
 
@@ -76,7 +77,7 @@ fn frame_room(alloc: Global) -> Result<Vec<u8>, AllocError>
 }
 
 impl Server {
-    /// Looks at the boxes of these names, 1 to 16 and no two alike: each lives in the area of its
+    /// Looks at the boxes of these specs, 1 to 16 and no two of one name: each lives in the area of its
     /// place, which has a lower and an upper half. The areas are opened in order, and then their
     /// records are loaded. No record is put, and where all areas are read at rest, or as zeros, no
     /// byte is written.
@@ -88,10 +89,10 @@ impl Server {
     pub fn look<D: Disk>(
         alloc: Global,
         disk: &mut D,
-        names: &[Name],
+        specs: &[BoxSpec],
     ) -> Result<Looked, ServerOpenError>
-        requires { HasRoomFor names.now (D.state disk.old) }
-        ensures { LooksAt names.now (D.state disk.old) (D.state disk.new) result }
+        requires { HasRoomFor (names_of specs.now) (D.state disk.old) }
+        ensures { LooksAt (names_of specs.now) (D.state disk.old) (D.state disk.new) result }
     {
         let Ok(reader) = FrameReader::new(alloc) else {
             return Err(ServerOpenError::Memory);
@@ -99,7 +100,7 @@ impl Server {
         let Ok(out) = frame_room(alloc) else {
             return Err(ServerOpenError::Memory);
         };
-        match DurableBoxes::look(alloc, disk, names) {
+        match DurableBoxes::look(alloc, disk, specs) {
             Ok(boxes) => Ok(Looked {
                 server: Server { boxes, reader, out },
             }),
@@ -107,7 +108,7 @@ impl Server {
         }
     }
 
-    /// Opens the server of the boxes of these names: a look, and then a settling. Once all areas
+    /// Opens the server of the boxes of these specs: a look, and then a settling. Once all areas
     /// have their names, each one without a record gets an empty box's.
     ///
     /// The errors are those of `look`, and `StoreFault` also where a call on the disk failed while
@@ -115,18 +116,18 @@ impl Server {
     pub fn open<D: Disk>(
         alloc: Global,
         disk: &mut D,
-        names: &[Name],
+        specs: &[BoxSpec],
     ) -> Result<Server, ServerOpenError>
-        requires { HasRoomFor names.now (D.state disk.old) }
+        requires { HasRoomFor (names_of specs.now) (D.state disk.old) }
         ensures opened { IfOk result
-            (λ server. IsServerOpened names.now server (D.state disk.old) (D.state disk.new)) }
+            (λ server. IsServerOpened (names_of specs.now) server (D.state disk.old) (D.state disk.new)) }
         ensures unopened { IfErr result
-            (IsServerUnopened names.now (D.state disk.old) (D.state disk.new)) }
+            (IsServerUnopened (names_of specs.now) (D.state disk.old) (D.state disk.new)) }
         // Meanwhile, and in each ending.
         ensures any_moment { Span (D.state disk.old) (D.state disk.new)
-            (IsOpening names.now (D.state disk.old)) }
+            (IsOpening (names_of specs.now) (D.state disk.old)) }
     {
-        let looked = match Server::look(alloc, disk, names) {
+        let looked = match Server::look(alloc, disk, specs) {
             Ok(looked) => looked,
             Err(error) => return Err(error),
         };
@@ -144,8 +145,8 @@ impl Server {
         disk: &mut D,
         pipe: &mut P,
     ) -> Result<Ended, ServeFault>
-        requires { IsServerReady box_text self.old (D.state disk.old) }
-        ensures { IsServedInOrder D.state P.port box_text self.old self.new disk.old disk.new
+        requires { IsServerReady self.old (D.state disk.old) }
+        ensures { IsServedInOrder D.state P.port self.old self.new disk.old disk.new
             pipe.old pipe.new result }
     {
         self.boxes

@@ -4,7 +4,7 @@ use dr_disk::Call;
 use thiserror::Error;
 
 /// A connection ended, after this many frames were answered.
-#[derive(Clone, Copy)]
+#[derive(Clone, Copy, Debug)]
 pub struct Ended {
     pub answered: u32,
 }
@@ -19,12 +19,12 @@ pub enum ServeFault {
     #[error("sending failed")]
     Write,
     /// A call on the disk failed, of this kind. The server has to be opened again.
-    #[error("a call on the disk failed")]
+    #[error("a call on the disk failed: {0:?}")]
     Store(Call),
 }
 
 /// One round of a connection.
-#[derive(Clone, Copy)]
+#[derive(Clone, Copy, Debug)]
 pub enum Round {
     /// The pipe has ended.
     AtEnd,

@@ -1,6 +1,7 @@
 //! Frames over a link to a relay: the replies that come, and one that is lost.
 
 use dr_ports::{Failed, Pipe};
+use relay_core::BoxSpec;
 use relay_link::RelayLink;
 use relay_wire::Name;
 use std::alloc::Global;
@@ -13,7 +14,7 @@ fn linked(alloc: Global) -> Option<RelayLink> {
     let Some(b) = Name::new(b"b") else {
         return None;
     };
-    match RelayLink::new(alloc, &[a, b]) {
+    match RelayLink::new(alloc, &[BoxSpec { name: a }, BoxSpec { name: b }]) {
         Ok(link) => Some(link),
         Err(_) => None,
     }

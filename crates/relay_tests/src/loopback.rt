@@ -42,7 +42,7 @@ fn comes<P: Pipe>(alloc: Global, pipe: &mut P, expected: &[u8]) -> bool {
 
 /// Whether the next connection is served, with this many replies.
 fn serves<A: Disk, L: Door>(server: &mut Server, disk: &mut A, door: &mut L, count: u32) -> bool
-    requires { IsServerReady box_text server.old (A.state disk.old) }
+    requires { IsServerReady server.old (A.state disk.old) }
 {
     if door.accept().is_err() {
         return false;
@@ -63,7 +63,7 @@ fn is_exchanged<A: Disk, L: Door, P: Pipe>(
     door: &mut L,
     link: &mut P,
 ) -> bool
-    requires { IsServerReady box_text server.old (A.state disk.old) }
+    requires { IsServerReady server.old (A.state disk.old) }
 {
     let is_sent = link.send(REQUESTS) == Ok(REQUESTS.len());
     let is_served = serves(server, disk, door, 3);

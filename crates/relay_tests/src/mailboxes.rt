@@ -2,7 +2,7 @@
 
 ghost use Rattle.std.specs.Prelude.{◌≡◌, ◌<◌, ◌≤◌, ◌+◌, ◌^◌, length};
 
-use relay_core::{Relay, answer_frame};
+use relay_core::{BoxSpec, Relay, answer_frame};
 use relay_wire::{FRAME_LIMIT, Frame, FrameReader, Name};
 use std::alloc::Global;
 
@@ -67,7 +67,7 @@ fn relay_of(alloc: Global) -> Option<Relay> {
     let Some(name) = Name::new(b"a") else {
         return None;
     };
-    match Relay::new(alloc, &[name]) {
+    match Relay::new(alloc, &[BoxSpec { name }]) {
         Ok(relay) => Some(relay),
         Err(_) => None,
     }

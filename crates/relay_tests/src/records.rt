@@ -4,7 +4,7 @@ ghost use Rattle.std.specs.Prelude.{◌≡◌, ◌<◌, ◌≤◌, length, IsOk}
 ghost use Rattle.relay_core.specs.declared.limits.TheConstants.{RECORD_LIMIT};
 ghost use Rattle.relay_core.specs.Record.{box_read};
 
-use relay_core::{Loaded, RECORD_LIMIT, Relay, check_box};
+use relay_core::{BoxSpec, Loaded, RECORD_LIMIT, Relay, check_box};
 use relay_wire::Name;
 use std::alloc::Global;
 
@@ -71,7 +71,7 @@ fn loads(alloc: Global, text: &[u8], out: &mut [u8]) -> Option<(Loaded, Loaded, 
     let Some(b) = Name::new(b"b") else {
         return None;
     };
-    let Ok(mut relay) = Relay::new(alloc, &[b, a]) else {
+    let Ok(mut relay) = Relay::new(alloc, &[BoxSpec { name: b }, BoxSpec { name: a }]) else {
         return None;
     };
     let Ok(()) = check_box(text) else {

@@ -6,6 +6,7 @@ ghost use Rattle.relay_server.specs.Durable.{IsServerReady};
 
 use dr_disk::{Call, Disk, MemoryDisk, Mode};
 use dr_ports::MemoryPipe;
+use relay_core::BoxSpec;
 use relay_server::{Ended, HALF_SIZE, ServeFault, Server, ServerOpenError, UPPER_START};
 use relay_wire::Name;
 use std::alloc::{AllocError, Global};
@@ -41,7 +42,7 @@ pub fn blank(alloc: Global) -> Result<MemoryDisk, AllocError> {
 
 /// The server of one box, or why none is opened.
 pub fn open<D: Disk>(alloc: Global, disk: &mut D, name: &[u8]) -> Result<Server, ServerOpenError>
-    ensures { IfOk result (λ server. IsServerReady box_text server (D.state disk.new)) }
+    ensures { IfOk result (λ server. IsServerReady server (D.state disk.new)) }
 {
     let Some(name) = Name::new(name) else {
         return Err(ServerOpenError::Memory);
@@ -49,7 +50,7 @@ pub fn open<D: Disk>(alloc: Global, disk: &mut D, name: &[u8]) -> Result<Server,
     if disk.size() < SIZE {
         return Err(ServerOpenError::Memory);
     }
-    Server::open(alloc, disk, &[name])
+    Server::open(alloc, disk, &[BoxSpec { name }])
 }
 
 /// Serves a connection. Answers how many replies it had, or how it broke off.
@@ -58,7 +59,7 @@ fn serve_on<D: Disk>(
     disk: &mut D,
     pipe: &mut MemoryPipe,
 ) -> Result<u32, ServeFault>
-    requires { IsServerReady box_text server.old (D.state disk.old) }
+    requires { IsServerReady server.old (D.state disk.old) }
 {
     match server.serve(disk, pipe) {
         Ok(Ended { answered }) => Ok(answered),

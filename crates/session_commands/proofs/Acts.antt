@@ -20,7 +20,7 @@ use Rattle.client.specs.InWorlds.{ActsIn, IsIn}
 use Rattle.client.specs.Opening.{IsClientOpened, IsEntryOrAsRead, OpensIn, ReadsAsSide}
 use Rattle.client.specs.Outcomes.{Acts, IsEffected, Outcome, acknowledged, faulted, is_closed, refused, undrawn}
 use Rattle.session_commands.specs.Acting.{Acted, ClientAsk, was_cut, was_done, was_refused}
-use Rattle.session_commands.specs.Closing.{printed_answer, ending_by, lines_of_ending, worked_as}
+use Rattle.command_lines.specs.Closing.{printed_answer, ending_by, lines_of_ending, worked_as}
 use Rattle.session_commands.specs.Disks.{IsClientAtRest, LeavesAtRest}
 use Rattle.session_commands.specs.InWorlds.{RunsAct, RunsIn, goes_on, is_in_doubt, stays_refused, stays_undrawn}
 use Rattle.session_commands.proofs.Standing.{leaves_either, runs_on, stays_on, still_ready, stood}

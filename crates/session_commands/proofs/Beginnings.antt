@@ -25,7 +25,7 @@ use Rattle.client.specs.declared.refusals.BeginRefusal.{BeginRefusal}
 use Rattle.client.proofs.Openings.{like_stands}
 use Rattle.session_commands.specs.Beginning.{Began, Begins, was_begun, wasnt_begun}
 use Rattle.session_commands.specs.Disks.{IsClientAtRest, RunsOn, StandsForOne}
-use Rattle.session_commands.specs.Lines.{session_line}
+use Rattle.command_lines.specs.Lines.{session_line}
 use Rattle.session_commands.specs.Opening.{ending_of_begin}
 
 -- what is like what was read stands for it, and is sound

@@ -1,21 +1,30 @@
 -- That a command does its work.
-use Rattle.std.proofs.Common.{List, inl, inr, refl, sym, ℕ, ◌∙◌, ◌≡◌}
+use Rattle.std.proofs.Common.{List, None, Option, Some, inl, inr, refl, sym, ℕ, ◌∙◌, ◌≡◌}
+use Rattle.std.specs.Prelude.{IsNone, IsSome}
 use Rattle.dr_base.specs.declared.position.Side.{Side}
 use Rattle.dr_disk.specs.State.{DiskState}
+use Rattle.dr_disk.specs.declared.call.Call.TheVariants.{Read}
 use Rattle.dr_model.specs.Machines.Worlds.{World}
 use Rattle.endings.specs.declared.ending.Ending.{Ending}
 use Rattle.endings.specs.declared.ending.Ending.TheVariants.{Refused}
 use Rattle.kem_laws.specs.Mechanism.{Mechanism}
 use Rattle.session_model.specs.Clients.{Client}
+use Rattle.session_model.specs.Schedule.{agreement_seed}
 use Rattle.session_model.specs.declared.answer.Refusal.{Refusal}
 use Rattle.slot_store.specs.Reading.{damaged, holds, no_content}
+use Rattle.client.specs.Beginning.{IsUnbegun}
 use Rattle.client.specs.Opening.{IsUnopened}
+use Rattle.client.specs.declared.begin.Begin.{Begin}
+use Rattle.client.specs.declared.refusals.BeginRefusal.{BeginRefusal}
+use Rattle.client.specs.declared.refusals.BeginRefusal.TheVariants.{Damaged as BeginDamaged, Exists as BeginExists, Memory as BeginMemory, NoPair as BeginNoPair, StoreFault as BeginFault}
 use Rattle.client.specs.declared.refusals.OpenRefusal.{OpenRefusal}
 use Rattle.client.specs.declared.refusals.OpenRefusal.TheVariants.{Damaged as OpenDamaged, Memory as OpenMemory, NoSession as OpenNoSession, StoreFault as OpenFault}
 use Rattle.session_commands.specs.Acting.{Acted, ClientAsk, was_cut, was_done, was_refused, was_undrawn, was_unopened}
-use Rattle.session_commands.specs.Completing.{DidWork, IsAccepted, NoneFailed, ReadsWhole}
+use Rattle.session_commands.specs.Beginning.{Began, Begins, was_begun, wasnt_begun}
+use Rattle.session_commands.specs.Checking.{Checked, RunsCheck, had_no_memory, read_failed, was_checked}
+use Rattle.session_commands.specs.Completing.{DidWork, IsAccepted, MayBegin, NoneFailed, ReadsWhole}
 use Rattle.session_commands.specs.InWorlds.{RunsAct, RunsIn, goes_on, is_in_doubt, stays_refused, stays_undrawn, stays_unopened}
-use Rattle.session_commands.specs.Opening.{ending_of_open}
+use Rattle.session_commands.specs.Opening.{ending_of_begin, ending_of_open}
 use Rattle.session_commands.specs.Showing.{RunsShow, Shown, was_shown, wasnt_opened}
 
 -- no client that can't be opened is refused
@@ -36,7 +45,7 @@ refused_in k w side asked start now ending lines reason e accepted (stays_refuse
 refused_in k w side asked start now ending lines reason e accepted (goes_on act chooses fair on rests) = cc
 refused_in k w side asked start now ending lines reason e accepted (is_in_doubt act chooses fair on) = cc
 
-unopened : {X : Type 0} (state : X → DiskState) (k : Mechanism) (w : World) (side : Side) (start now : X) (refusal : OpenRefusal)
+pub unopened : {X : Type 0} (state : X → DiskState) (k : Mechanism) (w : World) (side : Side) (start now : X) (refusal : OpenRefusal)
     → ReadsWhole k w side (state start) → NoneFailed (state start) (state now) → IsUnopened state k start now refusal
     → DidWork (ending_of_open refusal)
 unopened state k w side start now OpenMemory whole none why = inr refl
@@ -81,3 +90,43 @@ pub show_completes : {X : Type 0} (state : X → DiskState) (k : Mechanism) (w :
     → RunsShow state k shows start now ending lines → DidWork ending
 show_completes state k w side shows start now ending lines whole none runs =
     shown state k w side shows start now ending lines whole none runs.shown
+
+-- ---- beginning, and looking
+
+pair_or_none : {A : Type 0} (o : Option A) → IsSome o → IsNone o → ⊥
+pair_or_none None some none = cc
+pair_or_none (Some a) some none = cc
+
+unbegun : {X : Type 0} (state : X → DiskState) (k : Mechanism) (begin : Begin) (start now : X) (refusal : BeginRefusal)
+    → MayBegin k begin (state start) → NoneFailed (state start) (state now) → IsUnbegun state k begin start now refusal
+    → DidWork (ending_of_begin refusal)
+unbegun state k begin start now BeginMemory may none why = inr refl
+unbegun state k begin start now (BeginFault call) may none why = absurd (none call why)
+unbegun state k begin start now (BeginDamaged slot at) may none why =
+    let same : no_content ≡ damaged slot at = sym (may.empty may.bytes may.told) ∙ why.0 may.bytes may.told in absurd (cc)
+unbegun state k begin start now BeginExists may none why =
+    let held = why.0 may.bytes may.told in
+    let same : no_content ≡ holds held.0 = sym (may.empty may.bytes may.told) ∙ held.1 in absurd (cc)
+unbegun state k begin start now BeginNoPair may none why =
+    absurd (pair_or_none (k.meaning.pair_of (agreement_seed begin.key.bytes)) may.pair why.1)
+
+began : {X : Type 0} (state : X → DiskState) (k : Mechanism) (begin : Begin) (start now : X) (ending : Ending) (lines : List ℕ)
+    → MayBegin k begin (state start) → NoneFailed (state start) (state now)
+    → Began state k begin start now ending lines → DidWork ending
+began state k begin start now ending lines may none (wasnt_begun refusal why) = unbegun state k begin start now refusal may none why
+began state k begin start now ending lines may none (was_begun read pair rests quiet) = inl refl
+
+pub begin_completes : {X : Type 0} (state : X → DiskState) (k : Mechanism) (begin : Begin) (start now : X) (ending : Ending)
+    (lines : List ℕ) → MayBegin k begin (state start) → NoneFailed (state start) (state now)
+    → Begins state k begin start now ending lines → DidWork ending
+begin_completes state k begin start now ending lines may none runs = began state k begin start now ending lines may none runs.began
+
+checked : {X : Type 0} (state : X → DiskState) (k : Mechanism) (start now : X) (ending : Ending) (lines : List ℕ)
+    → NoneFailed (state start) (state now) → Checked state k start now ending lines → DidWork ending
+checked state k start now ending lines none (had_no_memory same) = inr refl
+checked state k start now ending lines none (read_failed rose) = absurd (none Read rose)
+checked state k start now ending lines none (was_checked report is quiet) = inl refl
+
+pub check_completes : {X : Type 0} (state : X → DiskState) (k : Mechanism) (start now : X) (ending : Ending) (lines : List ℕ)
+    → NoneFailed (state start) (state now) → RunsCheck state k start now ending lines → DidWork ending
+check_completes state k start now ending lines none runs = checked state k start now ending lines none runs.checked

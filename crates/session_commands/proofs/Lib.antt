@@ -1,6 +1,7 @@
 mod Acts
 mod Beginnings
 mod Completing
+mod SyncCompleting
 mod Quiet
 mod Says
 mod Shows
@@ -16,3 +17,4 @@ mod WholeRuns
 mod Talks
 mod Talking
 mod Checks
+mod Truly

@@ -17,6 +17,7 @@ use Rattle.client.specs.Grounds.{Grounds}
 use Rattle.client.specs.InWorlds.{StandsFor}
 use Rattle.client.specs.Moments.{IsKnown, IsLater, IsAmongKnown, Known, Link, StandsStill, known_after_sync, was_acknowledged, was_cut, was_cut_in_sync, was_left, was_opened, was_synced}
 use Rattle.client.specs.Opening.{ReadsAsSide}
+use Rattle.client.specs.Syncing.InOrder.{IsLeftBetween}
 use Rattle.client.specs.Syncing.InWorlds.{AreUnforged, course_in}
 use Rattle.client.specs.Syncing.Parties.{world_party}
 use Rattle.client.specs.declared.syncing.faults.SyncFault.{SyncFault}
@@ -24,13 +25,14 @@ use Rattle.client.specs.declared.syncing.faults.SyncFault.TheVariants.{Closed, L
 use Rattle.client.proofs.Later.{front_later, later_twice, lawful_at}
 use Rattle.client.proofs.Lifted.{ready_stands}
 use Rattle.client.proofs.Standing.{among}
-use Rattle.client.proofs.Syncs.Links.{reaches}
+use Rattle.client.proofs.Syncs.Links.{reaches, step_links}
 use Rattle.session_commands.specs.Acting.{ClientAsk}
 use Rattle.session_commands.specs.Disks.{IsClientAtRest, RunsOn, StandsForOne}
-use Rattle.session_commands.specs.Histories.{IsLeftBetween, acted_known, cut_in_sync, cut_known, shown_known, synced_known}
+use Rattle.session_commands.specs.Histories.{acted_known, cut_in_sync, cut_known, shown_known, synced_known}
 use Rattle.session_commands.specs.InWorlds.{RunsIn, goes_on, is_in_doubt, stays_refused, stays_undrawn, stays_unopened}
 use Rattle.session_commands.specs.Showing.{ShowsIn, shows_nothing, shows_world}
-use Rattle.session_commands.specs.Syncing.{StandsForCourse, SyncRunsIn}
+use Rattle.session_commands.specs.Syncing.{StandsForCourse, SyncRunsIn, broken_of}
+use Rattle.session_commands.proofs.Syncs.{parted}
 
 -- ---- what is read at entry
 
@@ -141,7 +143,7 @@ module _ (k : Mechanism) (side : Side) (known : Known) (w : World) (which : IsAm
           (λ c left. inl (rest_stands there.state (lawful_at k w there.state lawful (front_later k [] side w replies [] whole)) rests c left))
 
       pub syncs_link : (result : Result More SyncFault) → SyncRunsIn k side w kept replies start now result
-          → Link k side start now known (synced_known k side w replies result known)
+          → Link k side start now known (synced_known k side w replies result)
       syncs_link (Ok _) runs = stored runs.rests
       syncs_link (Err (Closed call)) runs = stored runs.rests
       syncs_link (Err LinkFault) runs = stored runs.rests
@@ -149,5 +151,8 @@ module _ (k : Mechanism) (side : Side) (known : Known) (w : World) (which : IsAm
       syncs_link (Err (Refused refusal)) runs = stored runs.rests
       syncs_link (Err Write) runs = stored runs.rests
       syncs_link (Err (Store call)) runs =
-          was_cut_in_sync known w which [] replies fair (λ c left. ⊎_elim inl (λ s. ⊎_elim inl (λ r. inr (course_known k side w replies start c r)) s)
-          (runs.any_moment.last c left))
+          let doubt = runs.rests in
+          let parts = parted replies doubt.before doubt.last doubt.split in
+          subst (λ front. Link k side start now known (known_after_sync k [] side w front (broken_of replies))) parts.0
+          (subst (λ back. Link k side start now known (known_after_sync k [] side w doubt.before back)) parts.1
+          (step_links k [] side w known which doubt.before doubt.last replies start now doubt.split fair doubt.either))

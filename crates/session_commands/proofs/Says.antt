@@ -19,7 +19,7 @@ use Rattle.client.specs.Saying.{IsSeedDrawn, SaysWithDraw, SaysIn, acted, asks_s
 use Rattle.client.specs.declared.refusals.SayRefusal.{SayRefusal}
 use Rattle.session_commands.specs.Acting.{Acted, ClientAsk, was_undrawn}
 use Rattle.session_commands.specs.Asking.{SaysText, asked_say, with_seed, without_seed}
-use Rattle.session_commands.specs.Closing.{ending_by, lines_of_ending, worked_as}
+use Rattle.command_lines.specs.Closing.{ending_by, lines_of_ending, worked_as}
 use Rattle.session_commands.specs.InWorlds.{RunsAct, RunsIn}
 use Rattle.session_commands.proofs.Acts.{Settles, acted_as, runs_in, settles, undrawn_in}
 use Rattle.session_commands.proofs.Standing.{stood}

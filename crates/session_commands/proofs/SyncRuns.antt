@@ -23,12 +23,13 @@ use Rattle.client.specs.Opening.{IsAsRead, IsEntryOrAsRead, OpensIn}
 use Rattle.client.specs.Syncing.InWorlds.{IsReachedIn, LeadsTo, SyncsIn}
 use Rattle.client.specs.Syncing.Moments.{Moment, moment}
 use Rattle.client.specs.Syncing.SoFar.{IsReached, Stands, Talked}
-use Rattle.client.specs.Syncing.Syncs.{EndsSync, IsRequestCut, IsSyncOver, IsUnheard}
+use Rattle.client.specs.Syncing.Syncs.{EndsSync, HasRecord, IsRequestCut, IsSyncOver, IsUnheard}
 use Rattle.client.specs.declared.syncing.faults.SyncFault.{SyncFault}
 use Rattle.client.specs.declared.syncing.faults.SyncFault.TheVariants.{Closed, Link, Peer, Refused, Store, Write}
 use Rattle.session_commands.specs.Disks.{IsClientAtRest}
 use Rattle.session_commands.specs.Syncing.{CameToEnd, IsStored, IsSyncLeft, LeavesCourse, RestsIn, StandsForCourse, SyncEnds, SyncRunsIn, is_as_read, is_of_course}
 use Rattle.session_commands.proofs.Standing.{as_read_sound, both_left, left_sound}
+use Rattle.session_commands.proofs.Truly.{same_told}
 
 -- ---- after an opening of the client
 
@@ -66,8 +67,15 @@ module _ (p : Party Client) (kept : Client) (replies : List Replied) (opened now
         ⊎_elim (λ over. inl (over.0, over.1, came_by over.0 over.2))
         (λ cut. inr (subst (λ (x : Client). IsUnheard p x replies opened now (fault_at at what)) same cut.1, stored_by cut.0)) ends
     sync_ends (Err (Refused refusal)) ends = (ends.0, ends.1, came_by ends.0 ends.2)
-    sync_ends (Err (Store call)) ends =
-        (subst (λ (x : Client). Talked p x replies opened now) same ends.talked, subst (λ (n : ℕ). Rose n (end.faults call)) (opening call) ends.rose)
+    sync_ends (Err (Store call)) ends = record {
+      before = ends.before;
+      last = ends.last;
+      split = ends.split;
+      leaves = subst (λ (x : Client). Always (λ c. HasRecord (course_of p x ends.before).state c
+          ⊎ HasRecord (course_of p x replies).state c) end) same ends.leaves;
+      rose = subst (λ (n : ℕ). Rose n (end.faults call)) (opening call) ends.rose;
+      talked = subst (λ (x : Client). Talked p x replies opened now) same ends.talked;
+    }
     sync_ends (Err Write) ends =
         (subst (λ (x : Client). Talked p x replies opened now) same ends.talked, stored_by ends.stands, omega (arith, ends.wrote.rose, later))
 
@@ -132,7 +140,8 @@ module _ (k : Mechanism) (start mid now : DiskState) (lawful : IsLawful now) whe
       rests_in (Err Link) ends leads = at_rest ends.0 _ leads.0
       rests_in (Err (Peer at what)) ends leads = ⊎_elim (λ over. at_rest over.2.stands _ leads.0) (λ cut. at_rest cut.0 _ leads.0) ends
       rests_in (Err (Refused refusal)) ends leads = at_rest ends.2.stands _ leads.0
-      rests_in (Err (Store call)) ends leads = tt
+      rests_in (Err (Store call)) ends leads =
+          record { before = leads.0; last = leads.1; split = leads.2; either = leads.4 }
       rests_in (Err Write) ends leads = at_rest ends.stands _ leads.0
 
       pub sync_runs : (result : Result More SyncFault) → OpensIn k w side start mid (Ok client) → Span start mid (IsEntryOrAsRead k start)
@@ -150,5 +159,6 @@ module _ (k : Mechanism) (start mid now : DiskState) (lawful : IsLawful now) whe
             ⊎_elim (λ was. stands_first s (alike s was) (opens.client.1 s was)) (λ r. in_course alike side w replies s r)
             (syncs.passed.last s (lawful.seen_now s told));
         rests = rests_in result ends syncs.leads;
-        arrived = syncs.arrived;
+        arrived = λ s told.
+            ⊎_elim (λ was. same_told k w side s (opens.client.1 s was)) (λ truly. truly) (syncs.arrived.stored.last s (lawful.seen_now s told));
       }

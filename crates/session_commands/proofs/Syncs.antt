@@ -1,8 +1,8 @@
 -- What a sync wrote, and the last line after it.
-use Rattle.std.proofs.Common.{Bool, Err, List, None, Ok, Result, Some, [], ap, arith, false, inl, inr, length, refl, sym, take, true, ℕ, ⊎_elim, ◌+◌, ◌++◌, ◌-◌, ◌<◌, ◌^◌, ◌≤◌, ◌∙◌, ◌∷◌, ◌≡◌, append-nil}
+use Rattle.std.proofs.Common.{Bool, Err, List, None, Ok, Result, Some, [], ap, arith, drop, false, inl, inr, length, refl, sym, take, true, ℕ, ⊎_elim, ◌+◌, ◌++◌, ◌-◌, ◌<◌, ◌^◌, ◌≤◌, ◌∙◌, ◌∷◌, ◌≡◌, append-nil}
 use Rattle.std.specs.Prelude.{IfErr, if◌then◌else◌, nat_le, ◌&&◌}
 use Rattle.std.proofs.lemmas.Bool.Decides.{nat_tests}
-use Rattle.std.proofs.lemmas.List.{length_push, take_at}
+use Rattle.std.proofs.lemmas.List.{drop_at, length_push, take_at}
 use Rattle.dr_disk.specs.Spans.{IsQuiet}
 use Rattle.dr_ports.specs.Ports.{appended}
 use Rattle.dr_ports.specs.States.{SinkState}
@@ -32,9 +32,18 @@ use Rattle.client.specs.Syncing.Syncs.{EndsSync, IsNoReply, Syncs, is_cut, is_un
 use Rattle.client.specs.declared.syncing.faults.SyncFault.{SyncFault}
 use Rattle.client.specs.declared.syncing.faults.SyncFault.TheVariants.{Closed, Link, Peer, Refused, Store, Write}
 use Rattle.client.specs.declared.syncing.faults.SyncRefusal.TheVariants.{BoxFull, InboxFull, Unknown}
-use Rattle.session_commands.specs.Syncing.{HasWritten, HasPrintedPlace, ending_of_fault, lines_of_sync}
+use Rattle.session_commands.specs.Syncing.{HasWritten, HasPrintedPlace, broken_of, ending_of_fault, lines_of_sync, made_of}
 
 -- ---- what was written
+
+-- the step that broke off is the last reply's
+pub parted : (replies before : List Replied) (last : Replied) → replies ≡ before ++ last ∷ []
+    → (before ≡ made_of replies) × (last ∷ [] ≡ broken_of replies)
+parted replies before last split =
+    let long : length replies - 1 ≡ length before = omega (arith, ap length split ∙ length_push before last) in (
+      sym (take_at before (last ∷ []) (length before) refl) ∙ ap (take (length before)) (sym split) ∙ ap (λ (n : ℕ). take n replies) (sym long),
+      sym (drop_at before (last ∷ []) (length before) refl) ∙ ap (drop (length before)) (sym split) ∙ ap (λ (n : ℕ). drop n replies) (sym long),
+    )
 
 module _ (p : Party Client) where
   -- while a reply is waited for there is no last line
@@ -50,11 +59,6 @@ module _ (p : Party Client) where
       sym (append-nil (course_of p kept replies).lines)
       ∙ ap (λ (l : List ℕ). (course_of p kept replies).lines ++ l) (sym (no_line (course_of p kept replies).state (course_of p kept replies).wait asked waits))
 
-  but_last : (replies before : List Replied) (last : Replied) → replies ≡ before ++ last ∷ [] → before ≡ take (length replies - 1) replies
-  but_last replies before last split =
-      let long : length replies - 1 ≡ length before = omega (arith, ap length split ∙ length_push before last) in
-      sym (take_at before (last ∷ []) (length before) refl) ∙ ap (take (length before)) (sym split) ∙ ap (λ (n : ℕ). take n replies) (sym long)
-
   wrote_so : (lines : List ℕ) (other : List ℕ) (a b : Moment) → lines ≡ other → Wrote lines a b → (b.sink.taken ≡ appended a.sink.taken other) × (b.sink.faults ≡ a.sink.faults)
   wrote_so lines other a b is wrote = (wrote.bytes_are ∙ ap (appended a.sink.taken) is, wrote.unfailing)
 
@@ -68,7 +72,7 @@ module _ (p : Party Client) where
       (λ cut. wrote_so _ _ a b (still_lines a.client.kept replies cut.1.asked cut.1.waits) cut.2) ends
   has_written replies a b start now (Err (Refused refusal)) ends = (ends.2.wrote.bytes_are, ends.2.wrote.unfailing)
   has_written replies a b start now (Err (Store call)) ends =
-      wrote_so _ _ a b (ap (λ (rs : List Replied). (course_of p a.client.kept rs).lines) (but_last replies ends.before ends.last ends.split)) ends.wrote
+      wrote_so _ _ a b (ap (λ (rs : List Replied). (course_of p a.client.kept rs).lines) (parted replies ends.before ends.last ends.split).0) ends.wrote
   has_written replies a b start now (Err Write) ends = (ends.wrote.beginning, ends.wrote.rose)
 
 -- ---- where a fault of the relay's lies

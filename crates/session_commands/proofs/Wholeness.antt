@@ -15,10 +15,10 @@ use Rattle.slot_store.specs.Records.{stored_record}
 use Rattle.sync_model.specs.declared.more.More.{More}
 use Rattle.client.specs.Clients.{client_area}
 use Rattle.client.specs.Opening.{ReadsAsSide, fault_of, client_record_fault}
+use Rattle.client.specs.Syncing.InOrder.{IsLeftBetween}
 use Rattle.client.specs.declared.syncing.faults.SyncFault.{SyncFault}
 use Rattle.session_commands.specs.Completing.{ReadsWhole}
 use Rattle.session_commands.specs.Disks.{StaysSound, RunsOn, StandsForOne}
-use Rattle.session_commands.specs.Histories.{IsLeftBetween}
 use Rattle.session_commands.specs.Syncing.{StandsForCourse, SyncRunsIn}
 use Rattle.session_commands.proofs.Linking.{left_by}
 

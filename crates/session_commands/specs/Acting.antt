@@ -14,7 +14,7 @@ use Rattle.session_model.specs.Clients.{Client}
 use Rattle.session_model.specs.declared.answer.Refusal.{Refusal}
 use Rattle.client.specs.Opening.{IsUnopened}
 use Rattle.client.specs.declared.refusals.OpenRefusal.{OpenRefusal}
-use Rattle.session_commands.specs.Closing.{printed_answer}
+use Rattle.command_lines.specs.Closing.{printed_answer}
 use Rattle.session_commands.specs.Disks.{ReadsAsKept, LeavesAtRest, LeavesEither, LeavesAsRead}
 use Rattle.session_commands.specs.Opening.{ending_of_open}
 

@@ -22,7 +22,7 @@ use Rattle.client.specs.declared.begin.Begin.{Begin}
 use Rattle.client.specs.declared.refusals.BeginRefusal.{BeginRefusal}
 use Rattle.session_commands.specs.Disks.{IsClientAtRest, RunsOn}
 use Rattle.session_commands.specs.Inputs.{IsInput, IsNoInput, key_in_hex}
-use Rattle.session_commands.specs.Lines.{session_line}
+use Rattle.command_lines.specs.Lines.{session_line}
 use Rattle.session_commands.specs.Opening.{ending_of_begin}
 use Rattle.session_commands.specs.declared.input.TheConstants.{KEY_TEXT_LIMIT}
 

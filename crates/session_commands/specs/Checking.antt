@@ -18,7 +18,7 @@ use Rattle.slot_store.specs.declared.report.Report.{Report}
 use Rattle.slot_store.specs.Reports.{IsReport}
 use Rattle.client.specs.Clients.{client_area}
 use Rattle.client.specs.Opening.{client_record_fault}
-use Rattle.session_commands.specs.Lines.{count_line}
+use Rattle.command_lines.specs.Lines.{count_line}
 
 -- ---- the lines of a report
 

@@ -1,5 +1,5 @@
 -- That a command does its work, where nothing fails and the machine refuses nothing.
-use Rattle.std.specs.Prelude.{◌≡◌, ◌⊎◌}
+use Rattle.std.specs.Prelude.{List, Some, ℕ, ◌≡◌, ◌⊎◌}
 use Rattle.dr_base.specs.Causes.{Rose}
 use Rattle.dr_base.specs.declared.position.Side.{Side}
 use Rattle.dr_disk.specs.State.{DiskState}
@@ -16,8 +16,10 @@ use Rattle.kem_laws.specs.Mechanism.{Mechanism}
 use Rattle.session_model.specs.Clients.{Client}
 use Rattle.session_model.specs.declared.answer.Answer.TheVariants.{Refused}
 use Rattle.session_model.specs.declared.answer.Refusal.{Refusal}
-use Rattle.client.specs.Beginning.{HoldsRecord}
-use Rattle.client.specs.Opening.{ReadsAsSide}
+use Rattle.client.specs.Beginning.{HasPair, HoldsRecord}
+use Rattle.client.specs.Opening.{IsReadAs, ReadsAsSide}
+use Rattle.client.specs.declared.begin.Begin.{Begin}
+use Rattle.slot_store.specs.Reading.{no_content}
 use Rattle.session_commands.specs.Acting.{ClientAsk}
 
 abbrev pub DidWork : Ending → Type 0
@@ -32,6 +34,13 @@ pub record ReadsWhole (k : Mechanism) (w : World) (side : Side) (disk : DiskStat
   pub lawful : IsLawfulWorld k w
   pub reads : ReadsAsSide k w side disk
   pub undamaged : HoldsRecord k disk
+
+-- the disk's bytes are told, and hold no record and no damage; and the key has a pair
+pub record MayBegin (k : Mechanism) (begin : Begin) (disk : DiskState) : Type 0 where
+  pub bytes : List ℕ
+  pub told : disk.seen ≡ Some bytes
+  pub empty : IsReadAs k disk no_content
+  pub pair : HasPair k begin
 
 -- the machine refuses no act that the command may be, and no draw failed
 pub record IsAccepted (k : Mechanism) (w : World) (side : Side) (asked : ClientAsk) : Type 0 where

@@ -9,11 +9,12 @@ use Rattle.session_model.specs.Clients.{Client}
 use Rattle.session_record.specs.Record.{record_read, record_text}
 use Rattle.slot_store.specs.Reading.{IsUndamaged}
 use Rattle.slot_store.specs.Records.{stored_record}
-use Rattle.slot_store.specs.Store.{HasArea, SlotStore}
+use Rattle.slot_store.specs.Store.{HasArea}
 use Rattle.slot_store.specs.Areas.{IsSameOutsideArea}
-use Rattle.client.specs.Clients.{IsReady, client_area}
+use Rattle.client.specs.Clients.{client_area}
 use Rattle.client.specs.InWorlds.{StandsFor}
 use Rattle.client.specs.Opening.{IsAsRead, IsEntryOrAsRead}
+use Rattle.client.specs.Syncing.InOrder.{IsAtRestFor}
 
 -- the disk has room for a client's area
 abbrev pub HasClientRoom : DiskState → Type 0
@@ -24,9 +25,8 @@ abbrev pub ReadsAsKept : Mechanism → DiskState → Client → Type 0
 ReadsAsKept k disk kept = (s : List ℕ) → disk.seen ≡ Some s → option_map (record_read k) (stored_record client_area s) ≡ Some (Ok kept)
 
 -- each image is at rest for the record of what a client keeps
-pub record IsClientAtRest (kept : Client) (disk : DiskState) : Type 0 where
-  pub store : SlotStore
-  pub ready : IsReady kept store disk
+abbrev pub IsClientAtRest : Client → DiskState → Type 0
+IsClientAtRest = IsAtRestFor
 
 -- bytes that are read without damage where those were that a read gave at entry, and are the same outside the client's area
 pub record StaysSound (start : DiskState) (c : List ℕ) : Type 0 where

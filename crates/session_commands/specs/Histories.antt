@@ -1,5 +1,5 @@
 -- What is known of a disk after a run of a command, by what was known before it.
-use Rattle.std.specs.Prelude.{Err, List, Result, [], ℕ, ◌∷◌, ◌⊎◌}
+use Rattle.std.specs.Prelude.{Err, List, Result, [], ℕ, ◌∷◌}
 use Rattle.dr_base.specs.declared.position.Side.{Side}
 use Rattle.dr_disk.specs.State.{DiskState}
 use Rattle.dr_model.specs.Machines.WorldActs.{act_in}
@@ -10,7 +10,7 @@ use Rattle.relay_wire.specs.Replies.{Replied}
 use Rattle.session_model.specs.Clients.{Client}
 use Rattle.sync_model.specs.Courses.{begun}
 use Rattle.sync_model.specs.declared.more.More.{More}
-use Rattle.client.specs.Moments.{Known, Link, reached_by, settled_in, with_doubts}
+use Rattle.client.specs.Moments.{Known, Link, known_after_sync, reached_by, settled_in, with_doubts}
 use Rattle.client.specs.Syncing.InWorlds.{course_in}
 use Rattle.client.specs.Syncing.Parties.{world_party}
 use Rattle.client.specs.declared.syncing.faults.SyncFault.{SyncFault}
@@ -18,6 +18,7 @@ use Rattle.client.specs.declared.syncing.faults.SyncFault.TheVariants.{Store}
 use Rattle.session_commands.specs.Acting.{ClientAsk}
 use Rattle.session_commands.specs.InWorlds.{RunsIn, goes_on, is_in_doubt, stays_refused, stays_undrawn, stays_unopened}
 use Rattle.session_commands.specs.Showing.{ShowsIn, shows_nothing, shows_world}
+use Rattle.session_commands.specs.Syncing.{broken_of, made_of}
 
 -- after a command that lets the client act once, in the world that it read: settled by all but a failing call on the disk
 abbrev pub acted_known : {k : Mechanism} {w : World} {side : Side} {asked : ClientAsk} {start now : DiskState} {ending : Ending} {lines : List ℕ}
@@ -46,14 +47,12 @@ abbrev pub cut_in_sync : Mechanism → Side → World → List Replied → Known
 cut_in_sync k side w replies known =
     with_doubts known (reached_by (world_party k [] side w) (begun (world_party k [] side w) w) replies)
 
--- after one
-abbrev pub synced_known : Mechanism → Side → World → List Replied → Result More SyncFault → Known → Known
-synced_known k side w replies (Err (Store call)) known = cut_in_sync k side w replies known
-synced_known k side w replies _ known = settled_in (course_in k [] side w replies).state
-
--- a crash between two moments may have left these bytes
-abbrev pub IsLeftBetween : DiskState → DiskState → List ℕ → Type 0
-IsLeftBetween start now c = now.image c ⊎ now.since start.moment c
+-- after one: the world that its steps led to, and where a call on the disk failed in the last one,
+-- what that leads to in doubt
+abbrev pub synced_known : Mechanism → Side → World → List Replied → Result More SyncFault → Known
+synced_known k side w replies (Err (Store call)) =
+    known_after_sync k [] side w (made_of replies) (broken_of replies)
+synced_known k side w replies _ = settled_in (course_in k [] side w replies).state
 
 -- whatever a command that asks this comes to in a world, it is a link from before it to after it
 abbrev pub LinksActs : Mechanism → Side → Known → World → ClientAsk → DiskState → DiskState → Type 0

@@ -16,7 +16,7 @@ use Rattle.session_model.specs.declared.answer.Refusal.{Refusal}
 use Rattle.client.specs.Opening.{ReadsAsSide}
 use Rattle.client.specs.declared.refusals.OpenRefusal.{OpenRefusal}
 use Rattle.session_commands.specs.Acting.{Acted, ClientAsk}
-use Rattle.session_commands.specs.Closing.{printed_answer}
+use Rattle.command_lines.specs.Closing.{printed_answer}
 use Rattle.session_commands.specs.Disks.{IsClientAtRest, RunsOn}
 use Rattle.session_commands.specs.Opening.{ending_of_open}
 

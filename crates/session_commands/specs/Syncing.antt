@@ -1,10 +1,11 @@
 -- What the command that syncs with a relay comes to, before its last line.
-use Rattle.std.specs.Prelude.{Err, List, Ok, Result, Some, [], length, option_map, take, ℕ, ⊤, ◌++◌, ◌-◌, ◌<◌, ◌^◌, ◌≡◌, ◌⊎◌}
+use Rattle.std.specs.Prelude.{Err, List, Ok, Result, Some, [], drop, length, option_map, take, ℕ, ⊤, ◌++◌, ◌-◌, ◌∷◌, ◌<◌, ◌^◌, ◌≡◌, ◌⊎◌}
 use Rattle.std.specs.List.{AllByRecursion}
 use Rattle.dr_base.specs.Causes.{Rose}
 use Rattle.dr_base.specs.declared.position.Side.{Side}
 use Rattle.dr_disk.specs.Spans.{IsQuiet, Span}
-use Rattle.dr_disk.specs.State.{DiskState}
+use Rattle.dr_disk.specs.State.{Always, DiskState}
+use Rattle.dr_disk.specs.declared.call.Call.{Call}
 use Rattle.dr_model.specs.Machines.WorldSides.{kept_in}
 use Rattle.dr_model.specs.Machines.Worlds.{World}
 use Rattle.dr_model.specs.Theorems.LawfulWorlds.{IsLawfulWorld}
@@ -28,11 +29,12 @@ use Rattle.sync_model.specs.declared.more.More.{More}
 use Rattle.client.specs.InWorlds.{StandsFor}
 use Rattle.client.specs.Opening.{IsAsRead, IsUnopened, ReadsAsSide}
 use Rattle.client.specs.Syncing.Arrivals.{OpensArrived}
-use Rattle.client.specs.Syncing.InWorlds.{AreUnforged, IsKeptIn, SyncArrives, course_in}
+use Rattle.client.specs.Receipts.{TellTruly}
+use Rattle.client.specs.Syncing.InWorlds.{AreUnforged, IsKeptIn, course_in}
 use Rattle.client.specs.Syncing.Parties.{client_party}
 use Rattle.client.specs.Syncing.Rounds.{sync_fault_of}
 use Rattle.client.specs.Syncing.SoFar.{Talked}
-use Rattle.client.specs.Syncing.Syncs.{IsRequestCut, IsUnheard}
+use Rattle.client.specs.Syncing.Syncs.{HasRecord, IsRequestCut, IsUnheard}
 use Rattle.client.specs.Syncing.Transfers.{Transfers}
 use Rattle.client.specs.declared.refusals.OpenRefusal.{OpenRefusal}
 use Rattle.client.specs.declared.syncing.faults.SyncFault.{SyncFault}
@@ -58,6 +60,13 @@ abbrev pub ending_of_sync : Result More SyncFault → Ending
 ending_of_sync (Ok which) = Done
 ending_of_sync (Err fault) = ending_of_fault fault
 
+-- where a call on the disk failed: the replies whose steps were made, and the one in whose step it failed
+abbrev pub made_of : List Replied → List Replied
+made_of replies = take (length replies - 1) replies
+
+abbrev pub broken_of : List Replied → List Replied
+broken_of replies = drop (length replies - 1) replies
+
 -- a place that the last line shows
 abbrev pub HasPrintedPlace : SyncFault → Type 0
 HasPrintedPlace (SyncPeer at what) = at < 2 ^ 32
@@ -65,7 +74,7 @@ HasPrintedPlace _ = ⊤
 
 -- the course's lines: where a call on the disk failed, those before the last reply
 abbrev pub lines_of_sync : Party Client → Client → List Replied → Result More SyncFault → List ℕ
-lines_of_sync p kept replies (Err (SyncStore call)) = (course_of p kept (take (length replies - 1) replies)).lines
+lines_of_sync p kept replies (Err (SyncStore call)) = (course_of p kept (made_of replies)).lines
 lines_of_sync p kept replies _ = all_lines p (course_of p kept replies)
 
 -- they were written, or a write failed after a beginning of them
@@ -105,6 +114,18 @@ pub record CameToEnd (p : Party Client) (kept : Client) (replies : List Replied)
   pub talked : Talked p kept replies link left
   pub stored : IsStored p kept replies start now
 
+-- A call on the disk failed, of this kind, in the step that the last reply asks for: each image has
+-- the record of before that step, or the one after it.
+pub record IsStepBroken (p : Party Client) (kept : Client) (replies : List Replied) (call : Call)
+    (start now : DiskState) (link left : Port) : Type 0 where
+  pub before : List Replied
+  pub last : Replied
+  pub split : replies ≡ before ++ last ∷ []
+  pub leaves : Always (λ c. HasRecord (course_of p kept before).state c
+      ⊎ HasRecord (course_of p kept replies).state c) now
+  pub rose : Rose (start.faults call) (now.faults call)
+  pub talked : Talked p kept replies link left
+
 abbrev pub SyncEnds : Party Client → Client → List Replied → DiskState → DiskState → Port → Port → ℕ → ℕ → Result More SyncFault → Type 0
 SyncEnds p kept replies start now link left before after (Ok which) = CameToEnd p kept replies (ended which) start now link left
 SyncEnds p kept replies start now link left before after (Err (SyncRefused refusal)) =
@@ -117,7 +138,7 @@ SyncEnds p kept replies start now link left before after (Err SyncLink) =
 SyncEnds p kept replies start now link left before after (Err SyncWrite) =
     Talked p kept replies link left × IsStored p kept replies start now × Rose before after
 SyncEnds p kept replies start now link left before after (Err (SyncStore call)) =
-    Talked p kept replies link left × Rose (start.faults call) (now.faults call)
+    IsStepBroken p kept replies call start now link left
 SyncEnds p kept replies start now link left before after (Err (SyncClosed call)) = ⊥
 
 -- ---- in worlds
@@ -131,9 +152,19 @@ pub record StandsForCourse (k : Mechanism) (side : Side) (w : World) (replies : 
   pub stands : StandsFor k (course_in k [] side w front).state side c
   pub sound : StaysSound start c
 
+-- a call on the disk failed in the step that the last reply asks for: each image stands for the
+-- world before that step, or for the one after it
+pub record IsStepInDoubt (k : Mechanism) (side : Side) (w : World) (replies : List Replied)
+    (now : DiskState) : Type 0 where
+  pub before : List Replied
+  pub last : Replied
+  pub split : replies ≡ before ++ last ∷ []
+  pub either : Always (λ c. StandsFor k (course_in k [] side w before).state side c
+      ⊎ StandsFor k (course_in k [] side w replies).state side c) now
+
 -- where no call on the disk failed, all is at rest for the world that the course reaches
 abbrev pub RestsIn : Mechanism → Side → World → List Replied → DiskState → Result More SyncFault → Type 0
-RestsIn k side w replies now (Err (SyncStore call)) = ⊤
+RestsIn k side w replies now (Err (SyncStore call)) = IsStepInDoubt k side w replies now
 RestsIn k side w replies now _ = IsClientAtRest (kept_in k (course_in k [] side w replies).state side) now
 
 pub record SyncRunsIn (k : Mechanism) (side : Side) (w : World) (kept : Client) (replies : List Replied) (start now : DiskState)
@@ -142,7 +173,7 @@ pub record SyncRunsIn (k : Mechanism) (side : Side) (w : World) (kept : Client) 
   pub any_moment : Span start now (λ c. start.image c ⊎ StandsForCourse k side w replies start c)
   pub reads : (s : List ℕ) → now.seen ≡ Some s → StandsForCourse k side w replies start s
   pub rests : RestsIn k side w replies now result
-  pub arrived : SyncArrives k [] side w replies
+  pub arrived : (s : List ℕ) → now.seen ≡ Some s → TellTruly k w side s
 
 -- ---- the command
 

@@ -14,12 +14,13 @@ use Rattle.session_model.specs.declared.answer.Items.{Items}
 use Rattle.sync_model.specs.declared.more.More.{More}
 use Rattle.client.specs.InWorlds.{StandsFor}
 use Rattle.client.specs.Moments.{HaveMoved, IsAmongKnown, Known, settled_in}
+use Rattle.client.specs.Syncing.InOrder.{IsLeftBetween}
 use Rattle.client.specs.Syncing.InWorlds.{AreUnforged}
 use Rattle.client.specs.declared.syncing.faults.SyncFault.{SyncFault}
 use Rattle.session_commands.specs.Acting.{ClientAsk}
 use Rattle.session_commands.specs.Asking.{asked_drop, asked_say, asked_take}
 use Rattle.session_commands.specs.Disks.{RunsOn}
-use Rattle.session_commands.specs.Histories.{IsLeftBetween, acted_known, cut_in_sync, cut_known, shown_known, synced_known}
+use Rattle.session_commands.specs.Histories.{acted_known, cut_in_sync, cut_known, shown_known, synced_known}
 use Rattle.session_commands.specs.InWorlds.{RunsIn}
 use Rattle.session_commands.specs.Showing.{ShowsIn}
 use Rattle.session_commands.specs.Syncing.{SyncRunsIn}
@@ -76,7 +77,7 @@ pub data Ran {X W : Type 0} (state : X → DiskState) (draws : W → DrawsState)
       → (kept : Client) (replies : List Replied) (result : Result More SyncFault)
       → AreUnforged k [] side w replies
       → SyncRunsIn k side w kept replies (state a) (state b) result
-      → Ran state draws k side a b known (synced_known k side w replies result known)
+      → Ran state draws k side a b known (synced_known k side w replies result)
   was_cut_syncing : (known : Known) (w : World) → IsAmongKnown known w
       → (kept : Client) (replies : List Replied) (now : X) (result : Result More SyncFault)
       → AreUnforged k [] side w replies

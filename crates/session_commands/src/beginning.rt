@@ -3,16 +3,15 @@
 ghost use Rattle.std.specs.Prelude.{◌≡◌, ◌≤◌};
 ghost use Rattle.dr_disk.specs.Spans.{IsQuiet};
 ghost use Rattle.session_commands.specs.Beginning.{Begins, RunsBegin};
-ghost use Rattle.session_commands.specs.Closing.{begun_ending, begun_lines};
+ghost use Rattle.command_lines.specs.Closing.{begun_ending, begun_lines};
 ghost use Rattle.session_commands.specs.Disks.{HasClientRoom};
 ghost use Rattle.session_commands.specs.Runs.{RunsAndCounts};
 
-use crate::closing::finish_with;
 use crate::endings_of::unbegun;
 use crate::input::read_key;
-use crate::lines::session_line;
 use bodies::Format;
 use client::{Begin, Client};
+use command_lines::{finish_with, session_line};
 use dr_base::Side;
 use dr_disk::Disk;
 use dr_ports::{OutputLine, Sink, Source};

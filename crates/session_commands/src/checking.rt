@@ -7,10 +7,9 @@ ghost use Rattle.session_commands.specs.Checking.{RunsCheck, ending_of_look, fin
 ghost use Rattle.session_commands.specs.Disks.{HasClientRoom};
 ghost use Rattle.session_commands.specs.Runs.{RunsAndCounts};
 
-use crate::closing::finish_written;
-use crate::lines::put_count;
 use answer_lines::put_named;
 use client::look;
+use command_lines::{finish_written, put_count};
 use dr_disk::Disk;
 use dr_ports::{Failed, OutputLine, ROOM, Sink, write_all};
 use endings::{Ending, Status, finish};

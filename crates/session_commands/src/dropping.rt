@@ -3,14 +3,14 @@
 ghost use Rattle.dr_disk.specs.Spans.{IsQuiet};
 ghost use Rattle.dr_model.specs.Machines.Acts.{dropping};
 ghost use Rattle.session_commands.specs.Asking.{asked_drop};
-ghost use Rattle.session_commands.specs.Closing.{ending_by, lines_of_ending};
+ghost use Rattle.command_lines.specs.Closing.{ending_by, lines_of_ending};
 ghost use Rattle.session_commands.specs.Disks.{HasClientRoom};
 ghost use Rattle.session_commands.specs.InWorlds.{RunsAct};
 ghost use Rattle.session_commands.specs.Runs.{RunsAndCounts};
 
-use crate::closing::close;
-use crate::endings_of::{dropped, unopened};
+use crate::endings_of::unopened;
 use client::Client;
+use command_lines::{close, dropped};
 use dr_disk::Disk;
 use dr_ports::Sink;
 use endings::{Ending, Status};

@@ -1,14 +1,11 @@
-//! How a command ends, by what a client answers.
+//! How a command ends, where no client was opened or begun.
 
 ghost use Rattle.std.specs.Prelude.{◌≡◌};
-ghost use Rattle.client.specs.Outcomes.{dropped_as, said_as, taken_as};
-ghost use Rattle.session_commands.specs.Closing.{worked_as};
 ghost use Rattle.session_commands.specs.Opening.{ending_of_begin, ending_of_open};
 
-use client::{BeginRefusal, DropRefusal, OpenRefusal, SayRefusal, TakeRefusal};
-use dr_base::Position;
+use client::{BeginRefusal, OpenRefusal};
 use endings::Ending;
-use session_model::{Answer, Refusal};
+use session_model::Refusal;
 
 /// Where no client was opened.
 pub(crate) fn unopened(refusal: OpenRefusal) -> Ending
@@ -32,43 +29,5 @@ pub(crate) fn unbegun(refusal: BeginRefusal) -> Ending
         BeginRefusal::Damaged { slot, at } => Ending::Damaged { slot, at },
         BeginRefusal::Exists => Ending::Exists,
         BeginRefusal::NoPair => Ending::Refused(Refusal::NoPair),
-    }
-}
-
-/// The answer to a text, or how the command ends.
-pub(crate) fn said(acted: Result<Position, SayRefusal>) -> Result<Answer, Ending>
-    ensures { result ≡ worked_as (said_as acted) }
-{
-    match acted {
-        Ok(position) => Ok(Answer::Said(position)),
-        Err(SayRefusal::Closed { .. }) => Err(Ending::DiskFault),
-        Err(SayRefusal::Refused(refusal)) => Err(Ending::Refused(refusal)),
-        Err(SayRefusal::DrawFault) => Err(Ending::DrawFault),
-        Err(SayRefusal::NoPair { .. }) => Err(Ending::Refused(Refusal::NoPair)),
-        Err(SayRefusal::StoreFault { .. }) => Err(Ending::DiskFault),
-    }
-}
-
-/// The answer to a packet.
-pub(crate) fn taken(acted: Result<Position, TakeRefusal>) -> Result<Answer, Ending>
-    ensures { result ≡ worked_as (taken_as acted) }
-{
-    match acted {
-        Ok(position) => Ok(Answer::Opened(position)),
-        Err(TakeRefusal::Closed { .. }) => Err(Ending::DiskFault),
-        Err(TakeRefusal::Refused(refusal)) => Err(Ending::Refused(refusal)),
-        Err(TakeRefusal::StoreFault { .. }) => Err(Ending::DiskFault),
-    }
-}
-
-/// The answer where items are dropped from a box.
-pub(crate) fn dropped(answer: Answer, acted: Result<(), DropRefusal>) -> Result<Answer, Ending>
-    ensures { result ≡ worked_as (dropped_as answer acted) }
-{
-    match acted {
-        Ok(()) => Ok(answer),
-        Err(DropRefusal::Closed { .. }) => Err(Ending::DiskFault),
-        Err(DropRefusal::Fewer { held }) => Err(Ending::Refused(Refusal::Fewer(held))),
-        Err(DropRefusal::StoreFault { .. }) => Err(Ending::DiskFault),
     }
 }

@@ -16,12 +16,13 @@ ghost use Rattle.sync_model.specs.declared.more.More.{More};
 ghost use Rattle.client.specs.Clients.{client_area};
 ghost use Rattle.client.specs.Moments.{IsAmongKnown, Known, Link, StandsStill};
 ghost use Rattle.client.specs.Opening.{ReadsAsSide};
+ghost use Rattle.client.specs.Syncing.InOrder.{IsLeftBetween};
 ghost use Rattle.client.specs.Syncing.InWorlds.{AreUnforged};
 ghost use Rattle.client.specs.declared.syncing.faults.SyncFault.{SyncFault};
 ghost use Rattle.session_commands.specs.Asking.{asked_drop, asked_say, asked_take};
 ghost use Rattle.session_commands.specs.Completing.{ReadsWhole};
 ghost use Rattle.session_commands.specs.Disks.{RunsOn};
-ghost use Rattle.session_commands.specs.Histories.{IsLeftBetween, LinksActs, LinksCuts, cut_in_sync, shown_known, synced_known};
+ghost use Rattle.session_commands.specs.Histories.{LinksActs, LinksCuts, cut_in_sync, shown_known, synced_known};
 ghost use Rattle.session_commands.specs.Showing.{ShowsIn};
 ghost use Rattle.session_commands.specs.Syncing.{SyncRunsIn};
 
@@ -88,7 +89,7 @@ pub fn runs_are_links<D: Disk, W: Draws>(before: &D, after: &D, draws: &W, left:
         → AreUnforged k [] side w replies
         → SyncRunsIn k side w kept replies (D.state before.now) (D.state after.now) result
         → Link k side (D.state before.now) (D.state after.now) known
-        (synced_known k side w replies result known) }
+        (synced_known k side w replies result) }
     ensures stays { (k : Mechanism) (side : Side) (known : Known) (w : World) → IsAmongKnown known w
         → RunsOn k side w w (D.state before.now) (D.state after.now)
         → Link k side (D.state before.now) (D.state after.now) known known }

@@ -1,23 +1,30 @@
-//! What follows of the commands' clauses. The function has no code: a caller that needs the fact
-//! calls it.
+//! What follows of the commands' clauses. The functions have no code: a caller that needs the fact
+//! calls one.
 
-ghost use Rattle.std.specs.Prelude.{ℕ, List};
+ghost use Rattle.std.specs.Prelude.{ℕ, List, ◌≡◌, ◌⊎◌};
 ghost use Rattle.dr_base.specs.declared.position.Side.{Side};
 ghost use Rattle.dr_model.specs.Machines.Acts.{Act};
 ghost use Rattle.dr_model.specs.Machines.Worlds.{World};
 ghost use Rattle.endings.specs.declared.ending.Ending.{Ending};
+ghost use Rattle.endings.specs.declared.ending.Ending.TheVariants.{NoMemory};
 ghost use Rattle.kem_laws.specs.Mechanism.{Mechanism};
 ghost use Rattle.session_model.specs.Clients.{Client};
+ghost use Rattle.client.specs.declared.begin.Begin.{Begin};
 ghost use Rattle.session_commands.specs.Asking.{asked_drop, asked_say, asked_take};
-ghost use Rattle.session_commands.specs.Completing.{DidWork, IsAccepted, NoneFailed, ReadsWhole};
+ghost use Rattle.session_commands.specs.Beginning.{Begins};
+ghost use Rattle.session_commands.specs.Checking.{RunsCheck};
+ghost use Rattle.session_commands.specs.Completing.{DidWork, IsAccepted, MayBegin, NoneFailed, ReadsWhole};
 ghost use Rattle.session_commands.specs.InWorlds.{RunsAct};
 ghost use Rattle.session_commands.specs.Showing.{RunsShow};
+ghost use Rattle.session_commands.specs.SyncCompleting.{AnswersClient, NoneFailedOver, SyncedToEnd};
+ghost use Rattle.session_commands.specs.Syncing.{RunsSync};
 
 use dr_disk::Disk;
-use dr_ports::Draws;
+use dr_ports::{Draws, Link};
 
 /// Where no call on the disk failed, on a disk that reads a world whole, a command that the machine
-/// accepts does its work, or memory is wanting; and so does one that shows what is kept.
+/// accepts does its work, or memory is wanting; and so does one that shows what is kept. On a disk
+/// that holds nothing so does a beginning by a key that has a pair, and on any disk a look at it.
 pub fn complete<D: Disk, W: Draws>(before: &D, after: &D, draws: &W, left: &W)
     ensures says { (k : Mechanism) (w : World) (side : Side) (text : List ℕ) (ending : Ending)
         (lines : List ℕ)
@@ -44,4 +51,28 @@ pub fn complete<D: Disk, W: Draws>(before: &D, after: &D, draws: &W, left: &W)
         → ReadsWhole k w side (D.state before.now)
         → NoneFailed (D.state before.now) (D.state after.now)
         → RunsShow D.state k shows before.now after.now ending lines → DidWork ending }
+    ensures begins { (k : Mechanism) (begin : Begin) (ending : Ending) (lines : List ℕ)
+        → MayBegin k begin (D.state before.now)
+        → NoneFailed (D.state before.now) (D.state after.now)
+        → Begins D.state k begin before.now after.now ending lines → DidWork ending }
+    ensures checks { (k : Mechanism) (ending : Ending) (lines : List ℕ)
+        → NoneFailed (D.state before.now) (D.state after.now)
+        → RunsCheck D.state k before.now after.now ending lines → DidWork ending }
+{}
+
+/// On a disk that reads a world whole, where no call on the disk or the link failed and no write,
+/// and the link gives one lawful reply for each request, the course of a sync comes to its end, and
+/// the command ends by it, or memory is wanting.
+pub fn syncs_to_end<D: Disk, L: Link>(before: &D, after: &D, link: &L, left: &L)
+    ensures { (k : Mechanism) (w : World) (side : Side) (address : List ℕ) (faults later : ℕ)
+        (ending : Ending) (lines : List ℕ)
+        → ReadsWhole k w side (D.state before.now)
+        → NoneFailed (D.state before.now) (D.state after.now)
+        → NoneFailedOver (L.port link.now) (L.port left.now) faults later
+        → AnswersClient k (D.state before.now) (L.port link.now)
+        → RunsSync D.state L.port k address before.now after.now link.now left.now faults later
+        ending lines
+        → (ending ≡ NoMemory)
+        ⊎ SyncedToEnd k address (D.state before.now) (D.state after.now) (L.port link.now)
+        (L.port left.now) ending }
 {}

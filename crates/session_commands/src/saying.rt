@@ -3,14 +3,14 @@
 ghost use Rattle.std.specs.Prelude.{◌≡◌};
 ghost use Rattle.dr_disk.specs.Spans.{IsQuiet};
 ghost use Rattle.session_commands.specs.Asking.{asked_say};
-ghost use Rattle.session_commands.specs.Closing.{ending_by, lines_of_ending};
+ghost use Rattle.command_lines.specs.Closing.{ending_by, lines_of_ending};
 ghost use Rattle.session_commands.specs.Disks.{HasClientRoom};
 ghost use Rattle.session_commands.specs.InWorlds.{RunsAct};
 ghost use Rattle.session_commands.specs.Runs.{RunsAndCounts};
 
-use crate::closing::close;
-use crate::endings_of::{said, unopened};
+use crate::endings_of::unopened;
 use client::Client;
+use command_lines::{close, said};
 use dr_disk::Disk;
 use dr_ports::{Draws, Sink};
 use endings::{Ending, Status};

@@ -14,6 +14,7 @@ use Rattle.session_model.proofs.Passing.{lets}
 abbrev draft_with : Fields → Way → Body → ReceiveDraft
 draft_with f way body = record {
   position = position_of f;
+  kind = body.kind;
   text = body.content;
   next = record way.next { awaiting = still_waiting body.receipt way.next.awaiting };
 }

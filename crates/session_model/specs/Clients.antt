@@ -1,7 +1,7 @@
 -- One side with its boxes.
 use Rattle.std.specs.Prelude.{Bool, Err, List, None, Ok, Option, Result, Some, [], if◌then◌else◌, length, nat_le, nat_lt, ℕ, ◌++◌, ◌∷◌}
 use Rattle.dr_base.specs.declared.limits.TheConstants.{TEXT_LIMIT, INBOX_LIMIT, OUTBOX_LIMIT}
-use Rattle.boxes.specs.Entries.{Entry, entry_under}
+use Rattle.boxes.specs.Entries.{Entry, entry_with}
 use Rattle.boxes.specs.Posts.{Post}
 use Rattle.cka.specs.Agreement.{agreement_size}
 use Rattle.dr_base.specs.declared.position.Position.{Position}
@@ -54,7 +54,7 @@ accept_receive client (Ok draft) =
       position = draft.position;
       next = record client {
         state = draft.next;
-        inbox = client.inbox ++ entry_under draft.position draft.text ∷ [];
+        inbox = client.inbox ++ entry_with draft.position draft.kind draft.text ∷ [];
       };
     })
 

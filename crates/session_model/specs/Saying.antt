@@ -6,7 +6,7 @@ use Rattle.bodies.specs.Formats.{version_of}
 use Rattle.bodies.specs.Receipts.{Receipt, receipt_up_to}
 use Rattle.bodies.specs.declared.format.Format.{Format}
 use Rattle.bodies.specs.declared.format.Format.TheVariants.{Padded, Plain, Receipts}
-use Rattle.bodies.specs.declared.limits.TheConstants.{TEXT_KIND}
+use Rattle.boxes.specs.declared.kinds.TheConstants.{TEXT_KIND}
 use Rattle.boxes.specs.Posts.{Post}
 use Rattle.cka.specs.Agreement.{turn_of}
 use Rattle.dr_base.specs.Position.{position_at}

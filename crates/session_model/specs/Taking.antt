@@ -13,9 +13,11 @@ use Rattle.session_model.specs.Ways.{Way, position_of, way_of}
 use Rattle.session_model.specs.declared.answer.Refusal.{Refusal}
 use Rattle.session_model.specs.declared.answer.Refusal.TheVariants.{BadPadding, BadTag}
 
--- a packet that opens: its position, its text, and what the session keeps once it is taken
+-- a packet that opens: its position, its text and its kind, and what the session keeps once it is
+-- taken
 pub record ReceiveDraft : Type 0 where
   pub position : Position
+  pub kind : ℕ
   pub text : List ℕ
   pub next : State
 
@@ -25,6 +27,7 @@ abbrev pub opened_as : Fields → Way → Option Body → Result ReceiveDraft Re
 opened_as f way None = Err BadPadding
 opened_as f way (Some body) = Ok (record {
   position = position_of f;
+  kind = body.kind;
   text = body.content;
   next = record way.next { awaiting = still_waiting body.receipt way.next.awaiting };
 })

@@ -69,6 +69,7 @@ entry_passes version s before entry fits short l = record {
   epoch_is = and_from _ _ (not_from_false _ l.peers) (le-leb _ _ l.reached);
   epoch_fits = omega (arith, l.reached);
   index_is = and_from _ _ (le-leb 1 entry.position.index l.from_one) (le-leb entry.position.index INDEX_LIMIT l.most);
+  kind_is = l.kind;
   short = le-leb (length entry.text) (text_most version) short;
 }
 

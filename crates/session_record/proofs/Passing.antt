@@ -1,6 +1,7 @@
 -- The values that pass the tests of the record's reader, field by field.
 use Rattle.std.specs.Prelude.{◌≡◌, ℕ, ◌^◌, ◌<◌, Bool, true, false, List, [], length}
 use Rattle.boxes.specs.Entries.{Entry}
+use Rattle.boxes.specs.declared.kinds.TheConstants.{TEXT_KIND}
 use Rattle.boxes.specs.Posts.{Post}
 use Rattle.cka.specs.Agreement.{agreement_size}
 use Rattle.dr_base.specs.Position.{is_own}
@@ -47,6 +48,7 @@ pub record PassesEntry (version : Version) (side : Side) (epoch : ℕ) (before :
   pub epoch_is : is_peers side epoch entry.position.epoch ≡ true
   pub epoch_fits : entry.position.epoch < 2 ^ 32
   pub index_is : is_index entry.position.index ≡ true
+  pub kind_is : entry.kind ≡ TEXT_KIND
   pub short : up_to (text_most version) (length entry.text) ≡ true
 
 pub record PassesPost (k : Mechanism) (version : Version) (session : List ℕ) (side : Side) (epoch : ℕ) (before : List Post) (one : Post) : Type 0 where

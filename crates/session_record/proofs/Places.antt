@@ -21,7 +21,7 @@ use Rattle.packet.proofs.Read.{read_was_printed}
 use Rattle.session_record.specs.declared.limits.TheConstants.{COUNT_SIZE, ENTRIES_LIMIT, ENTRY_LIMIT, HEADING_SIZE, KEPT_SIZE, KEYS_LIMIT, PHASE_LIMIT, POSTS_LIMIT, POST_LIMIT, RECORD_LIMIT, PLACE_SIZE, STREAM_SIZE, WAITING_LIMIT}
 use Rattle.session_record.specs.Awaiting.{awaiting_field, awaiting_of, is_waiting_epoch, is_waiting_index, last_waiting, sent_of, waiting_behind, waiting_item}
 use Rattle.session_record.specs.Fields.{count_field, epoch_field, is_secret, own_fields, phase_field, previous_field, receiving_field, reception_fields, side_field, format_byte, format_field, format_at, format_of, is_format, up_to, own_of, phase_of, reception_of, version_field, is_side, side_at, is_previous, has_receiving}
-use Rattle.session_record.specs.Lists.{any, any_length, entry_field, entry_of, inbox_field, kind_field, is_kept_epoch, is_kept_index, is_peers, is_post, is_posted, is_text_kind, kept_behind, kept_field, kept_item, kept_of, last_position, outbox_field, post_field, post_of, reach_of}
+use Rattle.session_record.specs.Lists.{any, any_length, entry_field, entry_of, inbox_field, kind_field, kind_told, is_kept_epoch, is_kept_index, is_peers, is_post, is_posted, is_text_kind, kept_behind, kept_field, kept_item, kept_of, last_position, outbox_field, post_field, post_of, reach_of}
 use Rattle.session_record.specs.Groups.{boxes_fields, boxes_of, heading_fields, heading_of, keys_fields, keys_of}
 use Rattle.session_record.specs.Versions.{has_format, has_kinds, has_receipts, inbox_most, is_version, kept_most, outbox_most, text_most, version_at}
 use Rattle.session_record.specs.declared.groups.Heading.{Heading}
@@ -80,7 +80,7 @@ within-inbox version side epoch =
     within-mapped ENTRY_LIMIT entry_of _
     (within-both _ _ _ _ (within-checked _ (is_peers side epoch) (number w32) (within-number w32)) (λ _.
     within-both _ _ _ _ (within-checked _ is_index (number w32) (within-number w32)) (λ _.
-    within-both _ _ _ _ (within-maybe _ (has_kinds version) _ (within-checked _ is_text_kind (number w8) (within-number w8))) (λ _.
+    within-both _ _ _ _ (within-mapped _ kind_told _ (within-maybe _ (has_kinds version) _ (within-checked _ is_text_kind (number w8) (within-number w8)))) (λ _.
     within-mapped _ (λ e. e.1) _
     (within-numbered w16 (up_to (text_most version)) TEXT_LIMIT (λ n. checked any (piece n)) (λ n short.
     within-checked TEXT_LIMIT any (piece n)

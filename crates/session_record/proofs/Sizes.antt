@@ -5,7 +5,7 @@ use Rattle.std.specs.Prelude.{All}
 use Rattle.std.specs.Int.{w8, w16, w32, to_be_bytes}
 use Rattle.std.proofs.lemmas.List.{length-drop, length_push}
 use Rattle.std.proofs.lemmas.List.Elements.{All-drop, All-head, All-push, All-tail}
-use Rattle.boxes.specs.Entries.{Entry, entry_under}
+use Rattle.boxes.specs.Entries.{Entry, entry_with}
 use Rattle.boxes.specs.Posts.{Post}
 use Rattle.bodies.proofs.Lengths.{length-positions}
 use Rattle.cka.specs.Agreement.{agreement_size}
@@ -163,8 +163,8 @@ module _ {T : Type 0} (bytes_of : T → List ℕ) (limit room : ℕ) (box : List
   }
 
 pub roomy-inbox : (inbox : List Entry) (change : Change) → IsRoomyInbox inbox → FitsInbox inbox change → IsRoomyInbox (inbox_after inbox change)
-roomy-inbox inbox (Received position text) before fits =
-    roomy-push (λ (entry : Entry). entry.text) INBOX_LIMIT TEXT_LIMIT inbox before (entry_under position text.now) fits.0 fits.1
+roomy-inbox inbox (Received position kind text) before fits =
+    roomy-push (λ (entry : Entry). entry.text) INBOX_LIMIT TEXT_LIMIT inbox before (entry_with position kind text.now) fits.0 fits.1
 roomy-inbox inbox (Dropped Texts n) before fits = roomy-drop (λ (entry : Entry). entry.text) INBOX_LIMIT TEXT_LIMIT inbox before n
 roomy-inbox inbox Same before fits = before
 roomy-inbox inbox (Said packet) before fits = before
@@ -177,5 +177,5 @@ roomy-outbox k outbox (Said packet) before fits =
     roomy-push (λ (post : Post). post.packet) OUTBOX_LIMIT PACKET_LIMIT outbox before (post_of k packet.now) fits.0 fits.1
 roomy-outbox k outbox (Dropped Packets n) before fits = roomy-drop (λ (post : Post). post.packet) OUTBOX_LIMIT PACKET_LIMIT outbox before n
 roomy-outbox k outbox Same before fits = before
-roomy-outbox k outbox (Received position text) before fits = before
+roomy-outbox k outbox (Received position kind text) before fits = before
 roomy-outbox k outbox (Dropped Texts n) before fits = before

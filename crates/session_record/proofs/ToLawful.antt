@@ -90,6 +90,7 @@ lawful_entry version s before entry l =
       reached = leb-true t s.epoch peers.1;
       from_one = leb-true 1 entry.position.index index.0;
       most = leb-true entry.position.index INDEX_LIMIT index.1;
+      kind = l.kind_is;
       short = omega (arith, leb-true (length entry.text) (text_most version) l.short, text-limit version);
     }
 

@@ -1,6 +1,6 @@
 -- What a call changes of the boxes.
 use Rattle.std.specs.Prelude.{⊤, ◌<◌, ◌≤◌, List, [], ◌∷◌, ◌++◌, length, drop}
-use Rattle.boxes.specs.Entries.{Entry, entry_under}
+use Rattle.boxes.specs.Entries.{Entry, entry_with}
 use Rattle.boxes.specs.Posts.{Post}
 use Rattle.dr_base.specs.declared.limits.TheConstants.{INBOX_LIMIT, OUTBOX_LIMIT, PACKET_LIMIT, TEXT_LIMIT}
 use Rattle.kem_laws.specs.Mechanism.{Mechanism}
@@ -11,7 +11,8 @@ use Rattle.session_record.specs.declared.change.Change.TheVariants.{Received, Sa
 use Rattle.session_record.specs.Lists.{post_of}
 
 abbrev pub inbox_after : List Entry → Change → List Entry
-inbox_after inbox (Received position text) = inbox ++ entry_under position text.now ∷ []
+inbox_after inbox (Received position kind text) =
+    inbox ++ entry_with position kind text.now ∷ []
 inbox_after inbox (Dropped Texts n) = drop n inbox
 inbox_after inbox _ = inbox
 
@@ -27,7 +28,7 @@ changed k c change =
 
 -- the boxes have room for what comes, and hold what goes
 abbrev pub FitsInbox : List Entry → Change → Type 0
-FitsInbox inbox (Received position text) =
+FitsInbox inbox (Received position kind text) =
     (length inbox < INBOX_LIMIT) × (length text.now ≤ TEXT_LIMIT)
 FitsInbox inbox (Dropped Texts n) = n ≤ length inbox
 FitsInbox inbox _ = ⊤

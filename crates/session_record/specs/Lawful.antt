@@ -1,6 +1,7 @@
 -- The clients that have a record.
 use Rattle.std.specs.Prelude.{◌≡◌, ◌^◌, ◌<◌, ◌≤◌, true, false, All, length, Ok}
 use Rattle.boxes.specs.Entries.{Entry}
+use Rattle.boxes.specs.declared.kinds.TheConstants.{TEXT_KIND}
 use Rattle.boxes.specs.Posts.{Post}
 use Rattle.cka.specs.Agreement.{agreement_size}
 use Rattle.dr_base.specs.Position.{is_own}
@@ -22,6 +23,7 @@ pub record IsLawfulEntry (s : State) (entry : Entry) : Type 0 where
   pub reached : entry.position.epoch ≤ s.epoch
   pub from_one : 1 ≤ entry.position.index
   pub most : entry.position.index ≤ INDEX_LIMIT
+  pub kind : entry.kind ≡ TEXT_KIND
   pub short : length entry.text ≤ TEXT_LIMIT
 
 -- a packet of the session, of an own epoch that was reached, under the position that it names

@@ -2,8 +2,8 @@
 use Rattle.std.specs.Prelude.{ℕ, ◌+◌, ◌==◌, ◌&&◌, ◌||◌, Bool, true, false, not, nat_le, nat_lt, List, [], ◌∷◌, ◌++◌, Option, Some, None, Result, Ok, Err, if◌then◌else◌}
 use Rattle.std.specs.Int.{w8, w16, w32, to_be_bytes}
 use Rattle.std.specs.Str.{bytes_eq}
-use Rattle.boxes.specs.Entries.{Entry, entry_under}
-use Rattle.bodies.specs.declared.limits.TheConstants.{TEXT_KIND}
+use Rattle.boxes.specs.Entries.{Entry, entry_with}
+use Rattle.boxes.specs.declared.kinds.TheConstants.{TEXT_KIND}
 use Rattle.boxes.specs.Posts.{Post, post_under}
 use Rattle.cka.specs.Agreement.{agreement_size}
 use Rattle.dr_base.specs.Position.{is_own, position_at}
@@ -86,21 +86,29 @@ kept_text kept =
 abbrev pub is_text_kind : ℕ → Bool
 is_text_kind n = n == TEXT_KIND
 
-unfoldable pub kind_field : Version → Reader (Option ℕ)
-kind_field version = maybe (has_kinds version) (checked is_text_kind (number w8))
+-- without a byte for it, it is a text's
+abbrev pub kind_told : Option ℕ → ℕ
+kind_told None = TEXT_KIND
+kind_told (Some kind) = kind
 
-abbrev pub kind_of : Version → Option ℕ
-kind_of version = if has_kinds version then Some TEXT_KIND else None
+unfoldable pub kind_field : Version → Reader ℕ
+kind_field version =
+    mapped kind_told (maybe (has_kinds version) (checked is_text_kind (number w8)))
+
+abbrev pub told_kind : Version → ℕ → Option ℕ
+told_kind version kind = if has_kinds version then Some kind else None
+
+abbrev pub kind_text : Version → ℕ → List ℕ
+kind_text version kind = print_maybe (to_be_bytes w8) (told_kind version kind)
 
 abbrev pub any : List ℕ → Bool
 any bytes = true
 
-abbrev pub entry_of : ℕ × (ℕ × (Option ℕ × List ℕ)) → Entry
-entry_of e = entry_under (position_at e.0 e.1.0) e.1.1.1
+abbrev pub entry_of : ℕ × (ℕ × (ℕ × List ℕ)) → Entry
+entry_of e = entry_with (position_at e.0 e.1.0) e.1.1.0 e.1.1.1
 
-abbrev pub of_entry : Version → Entry → ℕ × (ℕ × (Option ℕ × List ℕ))
-of_entry version entry =
-    (entry.position.epoch, (entry.position.index, (kind_of version, entry.text)))
+abbrev pub of_entry : Entry → ℕ × (ℕ × (ℕ × List ℕ))
+of_entry entry = (entry.position.epoch, (entry.position.index, (entry.kind, entry.text)))
 
 unfoldable pub entry_field : Version → Side → ℕ → Reader Entry
 entry_field version side epoch =
@@ -118,7 +126,7 @@ abbrev pub entry_text : Version → Entry → List ℕ
 entry_text version entry =
     to_be_bytes w32 entry.position.epoch
     ++ (to_be_bytes w32 entry.position.index
-    ++ (print_maybe (to_be_bytes w8) (kind_of version) ++ print_sized w16 entry.text))
+    ++ (kind_text version entry.kind ++ print_sized w16 entry.text))
 
 -- ---- the outbox: packets, each after its length
 

@@ -2,7 +2,7 @@
 
 ghost use Rattle.std.specs.Prelude.{◌≡◌, ◌+◌, ◌<◌, ◌≤◌, [], ◌∷◌, ◌++◌, length, drop, IfOk};
 ghost use Rattle.std.specs.Int.{w8, w16};
-ghost use Rattle.boxes.specs.Entries.{entry_under};
+ghost use Rattle.boxes.specs.Entries.{entry_with};
 ghost use Rattle.boxes.specs.Seen.{entry_seen};
 ghost use Rattle.dr_base.specs.Buffer.{Puts};
 ghost use Rattle.grammar.specs.Printer.{print_counted, print_items};
@@ -16,7 +16,6 @@ ghost use Rattle.session_record.specs.Versions.{newest};
 use crate::change::Change;
 use crate::groups::Heading;
 use crate::numbers::{read_kind, read_len};
-use bodies::TEXT_KIND;
 use boxes::{Entry, Inbox};
 use dr_base::{INBOX_LIMIT, INDEX_LIMIT, Position, TEXT_LIMIT, put, put_u8, put_u16, put_u32};
 use grammar::Cursor;
@@ -35,7 +34,7 @@ fn read_text<'a>(cursor: &mut Cursor<'a>, limit: usize) -> Result<&'a [u8], usiz
     cursor.piece(size)
 }
 
-/// A text of the peer's, and its position.
+/// A text of the peer's, its kind and its position.
 #[tactic(auto, unfolding(crate::specs::Lists::entry_field))]
 fn read_entry<'a>(cursor: &mut Cursor<'a>, heading: &Heading) -> Result<Entry<'a>, usize>
     ensures reads { let h = heading.now in
@@ -52,10 +51,11 @@ fn read_entry<'a>(cursor: &mut Cursor<'a>, heading: &Heading) -> Result<Entry<'a
     if index == 0 || index > INDEX_LIMIT {
         return Err(at_index);
     }
-    read_kind(cursor, heading.version)?;
+    let kind = read_kind(cursor, heading.version)?;
     let text = read_text(cursor, heading.version.text_most())?;
     Ok(Entry {
         position: Position { epoch: of, index },
+        kind,
         text,
     })
 }
@@ -74,7 +74,7 @@ fn read_entries(
 {
     'entries: for _ in 0..count {
         let one = read_entry(cursor, heading)?;
-        inbox.push(one.position, one.text).unwrap();
+        inbox.push(one.position, one.kind, one.text).unwrap();
     }
     Ok(())
 }
@@ -94,17 +94,17 @@ pub(crate) fn read_inbox(
     read_entries(cursor, heading, count, inbox)
 }
 
-/// Puts a text and its position.
-fn put_entry(out: &mut [u8], at: usize, position: Position, text: &[u8]) -> usize
+/// Puts a text, its kind and its position.
+fn put_entry(out: &mut [u8], at: usize, position: Position, kind: u8, text: &[u8]) -> usize
     requires short { length text.now ≤ TEXT_LIMIT }
-    requires room { let entry = entry_under position text.now in
+    requires room { let entry = entry_with position kind text.now in
         at + length (entry_text newest entry) ≤ length out.old }
-    ensures { let entry = entry_under position text.now in
+    ensures { let entry = entry_with position kind text.now in
         Puts out.old out.new at (entry_text newest entry) result }
 {
     let at_index = put_u32(out, at, position.epoch);
     let at_kind = put_u32(out, at_index, position.index);
-    let at_size = put_u8(out, at_kind, TEXT_KIND);
+    let at_size = put_u8(out, at_kind, kind);
     let at_text = put_u16(out, at_size, text.len() as u16);
     put(out, at_text, text)
 }
@@ -120,7 +120,7 @@ fn put_entries(out: &mut [u8], at: usize, inbox: &Inbox, from: u32) -> usize
     let mut next = at;
     'entries: for i in 0..inbox.len() - from {
         match inbox.at((from + i) as usize) {
-            Some(entry) => next = put_entry(out, next, entry.position, entry.text),
+            Some(entry) => next = put_entry(out, next, entry.position, entry.kind, entry.text),
             None => unreachable!(),
         }
     }
@@ -140,17 +140,24 @@ fn put_later(out: &mut [u8], at: usize, inbox: &Inbox, from: u32) -> usize
 }
 
 /// Puts the texts with one more, after their count.
-fn put_more(out: &mut [u8], at: usize, inbox: &Inbox, position: Position, text: &[u8]) -> usize
+fn put_more(
+    out: &mut [u8],
+    at: usize,
+    inbox: &Inbox,
+    position: Position,
+    kind: u8,
+    text: &[u8],
+) -> usize
     requires space { length inbox.now < INBOX_LIMIT }
     requires short { length text.now ≤ TEXT_LIMIT }
-    requires room { let more = inbox.now ++ entry_under position text.now ∷ [] in
+    requires room { let more = inbox.now ++ entry_with position kind text.now ∷ [] in
         at + length (print_counted w8 (entry_text newest) more) ≤ length out.old }
-    ensures { let more = inbox.now ++ entry_under position text.now ∷ [] in
+    ensures { let more = inbox.now ++ entry_with position kind text.now ∷ [] in
         Puts out.old out.new at (print_counted w8 (entry_text newest) more) result }
 {
     let at_first = put_u8(out, at, inbox.len() as u8 + 1);
     let at_last = put_entries(out, at_first, inbox, 0);
-    put_entry(out, at_last, position, text)
+    put_entry(out, at_last, position, kind, text)
 }
 
 /// Puts the inbox as a change leaves it.
@@ -162,7 +169,11 @@ pub(crate) fn put_inbox(out: &mut [u8], at: usize, inbox: &Inbox, change: &Chang
         Puts out.old out.new at (print_counted w8 (entry_text newest) after) result }
 {
     match change {
-        Change::Received { position, text } => put_more(out, at, inbox, *position, text),
+        Change::Received {
+            position,
+            kind,
+            text,
+        } => put_more(out, at, inbox, *position, *kind, text),
         Change::Dropped { items, n } => match items {
             Items::Texts => put_later(out, at, inbox, *n),
             Items::Packets => put_later(out, at, inbox, 0),

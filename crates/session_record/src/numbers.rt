@@ -5,7 +5,7 @@ ghost use Rattle.std.specs.Int.{w8};
 ghost use Rattle.grammar.specs.Reader.{checked, number};
 ghost use Rattle.grammar.specs.Standing.{Reads};
 ghost use Rattle.session_record.specs.Fields.{code_of, count_field, epoch_field, format_code, format_field, previous_field, side_field, up_to};
-ghost use Rattle.session_record.specs.Lists.{kind_field, kind_of};
+ghost use Rattle.session_record.specs.Lists.{kind_field};
 
 use crate::versions::Version;
 use bodies::{Format, TEXT_KIND};
@@ -96,20 +96,20 @@ pub(crate) fn read_len(cursor: &mut Cursor<'_>, limit: usize) -> Result<u8, usiz
     Ok(len)
 }
 
-/// The kind of a text, where the version has a byte for it: a text's.
+/// The kind of a text, which the version may have a byte for: it is a text's.
 #[tactic(auto, unfolding(crate::specs::Lists::kind_field))]
-pub(crate) fn read_kind(cursor: &mut Cursor<'_>, version: Version) -> Result<(), usize>
-    ensures { Reads (λ _. kind_of version) (kind_field version) cursor.old cursor.new result }
+pub(crate) fn read_kind(cursor: &mut Cursor<'_>, version: Version) -> Result<u8, usize>
+    ensures { Reads (λ kind. kind) (kind_field version) cursor.old cursor.new result }
 {
     if !version.has_kinds() {
-        return Ok(());
+        return Ok(TEXT_KIND);
     }
     let at = cursor.at();
     let kind = cursor.number8()?;
     if kind != TEXT_KIND {
         return Err(at);
     }
-    Ok(())
+    Ok(kind)
 }
 
 /// The byte of a side.

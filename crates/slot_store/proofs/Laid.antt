@@ -16,10 +16,11 @@ use Rattle.record_pages.specs.Tables.{entry_fault, length_in, nonzero_from, or_e
 use Rattle.record_pages.proofs.Filled.{count_covers}
 use Rattle.record_pages.proofs.Planned.{read_back}
 use Rattle.record_pages.proofs.TableTexts.{length_back, names_back}
+use Rattle.paged_records.specs.Faults.{behind_table, record_in}
 use Rattle.slot_store.specs.Areas.{Area, IsArea, layout_of}
 use Rattle.slot_store.specs.Layout.{IsMarked, Mark, laid, table_for}
-use Rattle.slot_store.specs.Reading.{behind_table, fault_in, holds, judged, read_as}
-use Rattle.slot_store.specs.Records.{faultless, record_in, record_shown}
+use Rattle.slot_store.specs.Reading.{fault_in, holds, judged, read_as}
+use Rattle.slot_store.specs.Records.{faultless, record_shown}
 use Rattle.slot_store.proofs.Entries.{entries_within}
 use Rattle.slot_store.proofs.Joined.{joined_rest, zeros_none}
 
@@ -74,18 +75,18 @@ module _ (area : Area) (mark : Mark) (text : List ℕ) (lawful : IsArea area) (m
   pub laid_names : record_names (table_for mark text) ≡ mark.numbers
   laid_names = names_back mark.turn (length text) mark.numbers rest short marked.each small
 
-  pub laid_lawful : table_fault area.pages area.most (table_for mark text) ≡ None
+  pub laid_lawful : table_fault 2 area.pages area.most (table_for mark text) ≡ None
   unfolding table_fault
   laid_lawful =
       let room : nat_le (page_count (length_in (table_for mark text))) area.most ≡ true =
       let a = ap page_count laid_length in let b = marked.fits in grind (arith, nat_tests) in
       let count : page_count (length_in (table_for mark text)) ≡ length mark.numbers = ap page_count laid_length ∙ sym marked.each in
-      ap (λ t. if t then or_else (entry_fault area.pages [] 6 (record_names (table_for mark text)))
+      ap (λ t. if t then or_else (entry_fault 2 area.pages [] 6 (record_names (table_for mark text)))
       (nonzero_from (6 + 2 * page_count (length_in (table_for mark text)))
       (drop (5 + 2 * page_count (length_in (table_for mark text))) (table_for mark text))) else Some 2) room
       ∙ ap (λ f. or_else f (nonzero_from (6 + 2 * page_count (length_in (table_for mark text)))
       (drop (5 + 2 * page_count (length_in (table_for mark text))) (table_for mark text))))
-      (ap (entry_fault area.pages [] 6) laid_names ∙ marked.entries)
+      (ap (entry_fault 2 area.pages [] 6) laid_names ∙ marked.entries)
       ∙ ap (λ k. nonzero_from (6 + 2 * k) (drop (5 + 2 * k) (table_for mark text))) count
       ∙ ap (λ (l : List ℕ). nonzero_from (6 + 2 * length mark.numbers) l) (body_rest mark.turn (length text) mark.numbers rest)
       ∙ zeros_none rest (6 + 2 * length mark.numbers)

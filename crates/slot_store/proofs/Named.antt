@@ -14,10 +14,10 @@ blank_names = refl
 -- nor does what is laid out for no record; that of a record names the record's pages
 module _ (area : Area) (mark : Mark) (text : Option (List ℕ)) (lawful : IsArea area)
     (marked : (kept : List ℕ) → text ≡ Some kept → IsMarked area mark kept) where
-  names_as : (o : Option (List ℕ)) → text ≡ o → entry_fault area.pages [] 6 (record_names (laid mark o).table.body) ≡ None
-  names_as None is = ap (entry_fault area.pages [] 6) blank_names
+  names_as : (o : Option (List ℕ)) → text ≡ o → entry_fault 2 area.pages [] 6 (record_names (laid mark o).table.body) ≡ None
+  names_as None is = ap (entry_fault 2 area.pages [] 6) blank_names
   names_as (Some kept) is =
-      ap (entry_fault area.pages [] 6) (laid_names area mark kept lawful (marked kept is)) ∙ (marked kept is).entries
+      ap (entry_fault 2 area.pages [] 6) (laid_names area mark kept lawful (marked kept is)) ∙ (marked kept is).entries
 
-  pub laid_entries : entry_fault area.pages [] 6 (record_names (laid mark text).table.body) ≡ None
+  pub laid_entries : entry_fault 2 area.pages [] 6 (record_names (laid mark text).table.body) ≡ None
   laid_entries = names_as text refl

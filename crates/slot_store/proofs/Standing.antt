@@ -1,34 +1,22 @@
 -- What bytes stand for on which a store rests.
-use Rattle.std.proofs.Common.{◌≡◌, ℕ, ◌*◌, ◌≤◌, Bool, true, false, List, Vec, length, take, Option, Some, None, refl, sym, ◌∙◌, ap, subst, arith}
+use Rattle.std.proofs.Common.{◌≡◌, ℕ, Bool, true, false, List, length, take, Option, Some, None, refl, sym, ◌∙◌, ap, subst, arith}
 use Rattle.std.specs.Prelude.{if◌then◌else◌, ◌==◌}
 use Rattle.std.proofs.lemmas.Bool.Decides.{nat_tests}
 use Rattle.std.proofs.lemmas.List.{length-take-le}
-use Rattle.dr_base.specs.declared.limits.TheConstants.{PAGE}
 use Rattle.pages.specs.Snapshots.{kept_shot}
 use Rattle.pages.proofs.Shots.{shot_still}
 use Rattle.record_pages.specs.Pages.{page_count}
 use Rattle.record_pages.specs.Tables.{record_names}
-use Rattle.record_pages.proofs.Filled.{count_covers, count_least}
-use Rattle.slot_store.proofs.Paging.{each_of}
+use Rattle.paged_records.proofs.Texts.{text_fits}
+use Rattle.paged_records.proofs.Paging.{each_of}
 use Rattle.slot_store.specs.declared.pager.Pager.{Pager}
-use Rattle.slot_store.specs.Areas.{Area, Fits, HasText, IsArea, layout_of}
+use Rattle.slot_store.specs.Areas.{Area, IsArea, bounds_of, layout_of}
 use Rattle.slot_store.specs.Layout.{IsLaidOut, IsMarked, Mark, laid}
 use Rattle.slot_store.specs.Reading.{IsUndamaged, OpensAs, read_as, area_reading}
 use Rattle.slot_store.specs.Records.{stored_record, shot_in, record_shown}
 use Rattle.slot_store.specs.Pager.{IsLaidFor, content, mark, store_seen}
 use Rattle.slot_store.specs.Store.{Rests, SlotStore}
 use Rattle.slot_store.proofs.Laid.{laid_kept, laid_read, laid_shown}
-
--- a text that is no longer than the most pages of a record fits
-pub text_fits : (area : Area) (text : List ℕ) → length text ≤ PAGE * area.most → Fits area text
-text_fits area text short = count_least (length text) area.most short
-
-pub held_inside : {Z : Type 0} (area : Area) (text : Vec ℕ Z) (len : ℕ) → HasText area text len → len ≤ length text.items
-held_inside area text len has = omega (arith, count_covers len, has.room)
-
-pub held_fits : {Z : Type 0} (area : Area) (text : Vec ℕ Z) (len : ℕ) → HasText area text len → Fits area (take len text.items)
-held_fits area text len has =
-    text_fits area (take len text.items) (omega (arith, has.few, length-take-le len text.items (held_inside area text len has)))
 
 -- ---- bytes whose shot is that of a record that is laid out, or of none
 
@@ -87,7 +75,7 @@ module _ (pager : Pager) where
       record {
         low = let e = is_some in grind (arith, nat_tests);
         high = pager.turns;
-        fits = text_fits pager.area text (omega (arith, long, pager.few));
+        fits = text_fits (bounds_of pager.area) text (omega (arith, long, pager.few));
         each = each_of pager.kept ∙ ap page_count (sym long);
         entries = pager.entries;
       }

@@ -1,12 +1,12 @@
 -- Where a store lies on its disk.
-use Rattle.std.specs.Prelude.{ℕ, ◌+◌, ◌*◌, ◌^◌, ◌<◌, ◌≤◌, List, Vec, length, vec_capacity}
+use Rattle.std.specs.Prelude.{ℕ, ◌+◌, ◌*◌, ◌^◌, ◌<◌, ◌≤◌, List, Vec}
 use Rattle.dr_base.specs.declared.limits.TheConstants.{PAGE}
 use Rattle.pages.specs.declared.layout.Layout.{Layout}
 use Rattle.pages.specs.declared.layout.TheConstants.{LOWER_PAGES}
 use Rattle.pages.specs.Areas.{area_end as end_of, area_layout}
 use Rattle.pages.specs.Around.{IsInside as IsInsideAll, IsOutside as IsOutsideAll, IsSameOutside as IsSameAround}
 use Rattle.record_pages.specs.declared.limits.TheConstants.{NAMED_LIMIT, NUMBER_LIMIT}
-use Rattle.record_pages.specs.Pages.{page_count}
+use Rattle.paged_records.specs.Bounded.{Bounds, Fits as FitsBounds, HasRecordMemory as HasBoundedMemory, HasText as HasBoundedText}
 
 -- So many pages, of which the first two are the tables: the first `LOWER_PAGES` lie from `start` on, the others from `upper` on.
 -- The most pages of a record.
@@ -45,16 +45,19 @@ IsOutsideArea area = IsOutsideAll (layout_of area)
 abbrev pub IsSameOutsideArea : Area → List ℕ → List ℕ → Type 0
 IsSameOutsideArea area = IsSameAround (layout_of area)
 
+-- which pages a record may have
+abbrev pub bounds_of : Area → Bounds
+bounds_of area = record { least = 2; count = area.pages; most = area.most }
+
 -- memory in which any record of the area lies, or can come to lie without more
 abbrev pub HasRecordMemory : {Z : Type 0} → Area → Vec ℕ Z → Type 0
-HasRecordMemory area bytes = PAGE * area.most ≤ vec_capacity bytes
+HasRecordMemory area = HasBoundedMemory (bounds_of area)
 
--- the first `len` bytes are a text that an area has room for. They stand in memory for any, as long as the text's pages at least.
-pub record HasText {Z : Type 0} (area : Area) (text : Vec ℕ Z) (len : ℕ) : Type 0 where
-  pub memory : HasRecordMemory area text
-  pub room : PAGE * page_count len ≤ length text.items
-  pub few : len ≤ PAGE * area.most
+-- the first `len` bytes are a text that an area has room for. They stand in memory for any, as long as
+-- the text's pages at least.
+abbrev pub HasText : {Z : Type 0} → Area → Vec ℕ Z → ℕ → Type 0
+HasText area = HasBoundedText (bounds_of area)
 
 -- a text has no more pages than a record may have
 abbrev pub Fits : Area → List ℕ → Type 0
-Fits area text = page_count (length text) ≤ area.most
+Fits area = FitsBounds (bounds_of area)

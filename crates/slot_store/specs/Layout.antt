@@ -7,9 +7,10 @@ use Rattle.pages.specs.Snapshots.{IsBeside, Snapshot, page_of}
 use Rattle.pages.specs.Writing.{IsOneOf}
 use Rattle.pages.specs.Resting.{IsShotAtRest as AreAtRest}
 use Rattle.record_pages.specs.Pages.{page_count, pages_in}
-use Rattle.record_pages.specs.Plans.{free_from, numbered}
+use Rattle.record_pages.specs.Plans.{numbered}
 use Rattle.record_pages.specs.Tables.{entry_fault, record_names, table_body}
-use Rattle.slot_store.specs.Areas.{Area, Fits, layout_of}
+use Rattle.paged_records.specs.Bounded.{free_in as free_of}
+use Rattle.slot_store.specs.Areas.{Area, Fits, bounds_of, layout_of}
 
 -- which table is current, table 1 or table 0, its turn, and the numbers of the record's pages
 pub record Mark : Type 0 where
@@ -23,7 +24,7 @@ pub record IsMarked (area : Area) (mark : Mark) (text : List ℕ) : Type 0 where
   pub high : mark.turn ≤ 3
   pub fits : Fits area text
   pub each : length mark.numbers ≡ page_count (length text)
-  pub entries : entry_fault area.pages [] 6 mark.numbers ≡ None
+  pub entries : entry_fault 2 area.pages [] 6 mark.numbers ≡ None
 
 abbrev pub pages_held : Option (List ℕ) → List (List ℕ)
 pages_held None = []
@@ -31,7 +32,7 @@ pages_held (Some text) = pages_in text
 
 -- the numbers that no page of the record has, ascending
 abbrev pub free_in : Area → List ℕ → List ℕ
-free_in area numbers = free_from numbers (area.pages - 2) 2
+free_in area = free_of (bounds_of area)
 
 -- the mark of the next record: the other table, the turn that follows, and for each page that changes the next free number
 abbrev pub next_mark : Area → Option (List ℕ) → Mark → List ℕ → Mark

@@ -8,10 +8,7 @@ pub mod Pager
 pub mod Stops
 pub mod Putting
 pub mod Settling
-pub mod Judged
-pub mod Loading
 pub mod Found
-pub mod Finds
 pub mod Locating
 pub mod AtRest
 pub mod Opened

@@ -5,16 +5,16 @@ use Rattle.dr_disk.specs.State.{DiskState, OnSeen}
 use Rattle.dr_disk.specs.Spans.{Span}
 use Rattle.dr_disk.specs.Called.{Went, itself}
 use Rattle.pages.specs.Runs.{IsUntouched}
-use Rattle.slot_store.specs.declared.draft.Draft.{Draft}
+use Rattle.paged_records.specs.declared.draft.Draft.{Draft}
 use Rattle.slot_store.specs.declared.errors.OpenError.{OpenError}
 use Rattle.slot_store.specs.declared.errors.OpenError.TheVariants.{Damaged, StoreFault}
-use Rattle.slot_store.specs.declared.kept.Kept.{Kept}
+use Rattle.paged_records.specs.declared.kept.Kept.{Kept}
 use Rattle.slot_store.specs.declared.opening.Found.{Found}
 use Rattle.slot_store.specs.declared.outcome.Outcome.{Outcome}
 use Rattle.slot_store.specs.declared.outcome.Outcome.TheVariants.{Refused, Stored}
 use Rattle.slot_store.specs.Areas.{Area}
 use Rattle.slot_store.specs.AtRest.{IsReadAtRest}
-use Rattle.slot_store.specs.Loading.{HasRoomToLoad}
+use Rattle.slot_store.specs.Memory.{HasRoomToLoad}
 use Rattle.slot_store.specs.Memory.{HasPlanRoom}
 use Rattle.slot_store.specs.Opened.{IsOpened}
 use Rattle.slot_store.specs.Found.{HasReadContent}

@@ -1,12 +1,10 @@
 -- What an area reads as: no record, the newer table's record, or damage.
-use Rattle.std.specs.Prelude.{◌≡◌, ◌⊎◌, ℕ, ◌+◌, Bool, true, false, List, drop, Option, Some, None}
-use Rattle.dr_base.specs.declared.limits.TheConstants.{PAGE}
+use Rattle.std.specs.Prelude.{◌≡◌, ◌⊎◌, ℕ, Bool, true, false, List, Option, Some, None}
 use Rattle.dr_disk.specs.State.{DiskState}
 use Rattle.pages.specs.Snapshots.{Shot, no_shot, shot, unclear}
-use Rattle.record_pages.specs.Pages.{joined}
-use Rattle.record_pages.specs.Tables.{length_in, nonzero_from, or_else, table_fault}
-use Rattle.slot_store.specs.Areas.{Area, IsSameOutsideArea}
-use Rattle.slot_store.specs.Records.{record_in, stored_record, shot_in}
+use Rattle.paged_records.specs.Faults.{fault_in as fault_within, record_in}
+use Rattle.slot_store.specs.Areas.{Area, IsSameOutsideArea, bounds_of}
+use Rattle.slot_store.specs.Records.{stored_record, shot_in}
 
 -- no record; a record; or the number of the damaged table, and the place: in the table, or a page's size and the place in the
 -- record's pages
@@ -24,20 +22,9 @@ abbrev pub reading_of : Option (List ℕ) → AreaReading
 reading_of None = no_content
 reading_of (Some text) = holds text
 
--- of a fault in a record's pages, counted from its table
-abbrev pub behind_table : Option ℕ → Option ℕ
-behind_table None = None
-behind_table (Some at) = Some (PAGE + at)
-
--- the first fault of a record, or else of the zeros that fill its pages
-abbrev pub record_fault : (List ℕ → Option ℕ) → List ℕ → List (List ℕ) → Option ℕ
-record_fault fault_at body pages =
-    or_else (fault_at (record_in body pages)) (nonzero_from (length_in body) (drop (length_in body) (joined pages)))
-
 -- the first fault of an open table and its pages
 abbrev pub fault_in : (List ℕ → Option ℕ) → Area → List ℕ → List (List ℕ) → Option ℕ
-fault_in fault_at area body pages =
-    or_else (table_fault area.pages area.most body) (behind_table (record_fault fault_at body pages))
+fault_in fault_at area = fault_within fault_at (bounds_of area)
 
 abbrev pub judged : Bool → Option ℕ → List ℕ → AreaReading
 judged second None text = holds text

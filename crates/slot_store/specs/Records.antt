@@ -1,13 +1,9 @@
 -- The record that an area's bytes stand for.
-use Rattle.std.specs.Prelude.{ℕ, List, take, Option, Some, None}
+use Rattle.std.specs.Prelude.{ℕ, List, Option, Some, None}
 use Rattle.pages.specs.Snapshots.{Shot, no_shot, shot, snapshot, unclear}
-use Rattle.record_pages.specs.Pages.{joined}
-use Rattle.record_pages.specs.Tables.{length_in, record_names, table_fault}
+use Rattle.record_pages.specs.Tables.{record_names, table_fault}
+use Rattle.paged_records.specs.Faults.{record_in}
 use Rattle.slot_store.specs.Areas.{Area, layout_of}
-
--- the record of a table and its pages
-abbrev pub record_in : List ℕ → List (List ℕ) → List ℕ
-record_in body pages = take (length_in body) (joined pages)
 
 -- unless there is a fault
 abbrev pub faultless : Option ℕ → List ℕ → Option (List ℕ)
@@ -18,7 +14,7 @@ faultless (Some at) text = None
 abbrev pub record_shown : Area → Shot → Option (List ℕ)
 record_shown area no_shot = None
 record_shown area unclear = None
-record_shown area (shot s) = faultless (table_fault area.pages area.most s.table.body) (record_in s.table.body s.pages)
+record_shown area (shot s) = faultless (table_fault 2 area.pages area.most s.table.body) (record_in s.table.body s.pages)
 
 -- which table counts, with its pages
 abbrev pub shot_in : Area → List ℕ → Shot

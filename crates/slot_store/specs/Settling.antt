@@ -1,12 +1,13 @@
 -- How an area is settled: what is asked of a disk, and what its calls leave.
-use Rattle.std.specs.Prelude.{◌≡◌, ℕ, false, true, List, Some, Result, OnOk}
+use Rattle.std.specs.Prelude.{◌≡◌, ℕ, List, Some, Result, OnOk}
 use Rattle.dr_disk.specs.State.{Always, DiskState, IsSettled, OnSeen}
 use Rattle.dr_disk.specs.Spans.{Span}
 use Rattle.dr_disk.specs.declared.call.Call.{Call}
 use Rattle.dr_disk.specs.Called.{Went, itself}
 use Rattle.pages.specs.Runs.{IsUntouched}
 use Rattle.pages.specs.Snapshots.{kept_shot}
-use Rattle.pages.specs.Tables.{Table, table_at}
+use Rattle.pages.specs.Judged.{AreTablesRead as ArePairRead}
+use Rattle.pages.specs.Tables.{Table}
 use Rattle.slot_store.specs.declared.pager.Pager.{Pager}
 use Rattle.slot_store.specs.Areas.{Area, layout_of}
 use Rattle.slot_store.specs.Layout.{laid}
@@ -21,9 +22,8 @@ pub record IsSettledArea (area : Area) (disk : DiskState) : Type 0 where
   pub settled : IsSettled disk
 
 -- both tables as they were read
-pub record AreTablesRead (area : Area) (first second : Table) (disk : DiskState) : Type 0 where
-  pub first_is : OnSeen (λ s. table_at (layout_of area) false s ≡ first) disk
-  pub second_is : OnSeen (λ s. table_at (layout_of area) true s ≡ second) disk
+abbrev pub AreTablesRead : Area → Table → Table → DiskState → Type 0
+AreTablesRead area = ArePairRead (layout_of area)
 
 -- a pager at rest on what was read
 abbrev pub RestsAsRead : Area → DiskState → Pager → List ℕ → Type 0

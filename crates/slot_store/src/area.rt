@@ -1,9 +1,10 @@
 //! Where a store lies on its disk.
 
 ghost use Rattle.std.specs.Prelude.{◌≡◌};
-ghost use Rattle.slot_store.specs.Areas.{IsArea, layout_of};
+ghost use Rattle.slot_store.specs.Areas.{IsArea, bounds_of, layout_of};
 
 use dr_base::PAGE;
+use paged_records::Bounds;
 use pages::Layout;
 use std::marker::Model;
 
@@ -44,6 +45,18 @@ pub(crate) fn layout(area: Area) -> Layout
         upper: area.upper,
         least: 2,
         count: area.pages,
+    }
+}
+
+/// Which pages a record may have.
+pub(crate) fn bounds(area: Area) -> Bounds
+    ensures bounds { result ≡ bounds_of area }
+    ensures lawful { IsArea area }
+{
+    Bounds {
+        least: 2,
+        count: area.pages,
+        most: area.most,
     }
 }
 

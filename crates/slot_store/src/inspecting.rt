@@ -6,8 +6,8 @@ ghost use Rattle.dr_disk.specs.declared.call.Call.{Call};
 ghost use Rattle.dr_disk.specs.State.{OnSeen};
 ghost use Rattle.dr_disk.specs.Spans.{IsQuiet, Span};
 ghost use Rattle.dr_disk.specs.Calls.{Unwritten};
-ghost use Rattle.slot_store.specs.Finds.{Finds};
-ghost use Rattle.slot_store.specs.Judged.{table_with};
+ghost use Rattle.pages.specs.Finds.{Finds};
+ghost use Rattle.pages.specs.Judged.{table_with};
 ghost use Rattle.slot_store.specs.Outcome.{IsForStore};
 ghost use Rattle.slot_store.specs.Pager.{content};
 ghost use Rattle.slot_store.specs.Reading.{reading_of};
@@ -16,11 +16,7 @@ ghost use Rattle.slot_store.specs.Scratch.{HasTables};
 ghost use Rattle.slot_store.specs.Store.{HasArea};
 
 use crate::area::Area;
-use crate::draft::Draft;
 use crate::errors::InspectError;
-use crate::grammar::Grammar;
-use crate::judging::is_open;
-use crate::kept::Kept;
 use crate::locating::{Located, locate};
 use crate::looking::rests;
 use crate::opening::take_memory;
@@ -29,6 +25,8 @@ use crate::reading::read_tables;
 use crate::report::{Finding, Gate, Report};
 use crate::scratch::Scratch;
 use dr_disk::{Call, Disk};
+use paged_records::{Draft, Grammar, Kept};
+use pages::is_open;
 use std::alloc::Global;
 
 /// A table's gate, as it is reported.

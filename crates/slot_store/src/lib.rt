@@ -7,33 +7,28 @@
 
 pub use area::Area;
 pub use errors::{InspectError, OpenError, StoreFault};
-pub use grammar::Grammar;
 pub use inspecting::inspect;
-pub use kept::{lengthen, record_memory};
 pub use laws::{locality, readings, resting, widening};
 pub use opening::Found;
+pub use paged_records::Grammar;
 pub use pages::LOWER_PAGES;
 pub use record_pages::{NAMED_LIMIT, NUMBER_LIMIT};
 pub use report::{Finding, Gate, Report};
+pub use rooms::{lengthen, record_memory};
 pub use store::SlotStore;
 
 mod area;
-mod draft;
 mod errors;
-mod grammar;
 mod inspecting;
-mod judging;
-mod kept;
 mod laws;
-mod loading;
 mod locating;
 mod looking;
 mod opening;
 mod outcome;
 mod pager;
-mod planning;
 mod reading;
 mod report;
+mod rooms;
 mod scratch;
 mod settling;
 mod store;

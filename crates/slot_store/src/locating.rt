@@ -6,24 +6,21 @@ ghost use Rattle.dr_disk.specs.State.{OnSeen};
 ghost use Rattle.pages.specs.Tables.{counts, is_open, open_table, tables_standing};
 ghost use Rattle.record_pages.specs.Tables.{entry_fault};
 ghost use Rattle.slot_store.specs.Areas.{layout_of};
-ghost use Rattle.slot_store.specs.Finds.{Finds};
-ghost use Rattle.slot_store.specs.Loading.{HasRoomToLoad};
+ghost use Rattle.pages.specs.Finds.{Finds};
+ghost use Rattle.slot_store.specs.Memory.{HasRoomToLoad};
 ghost use Rattle.slot_store.specs.Locating.{IsLocated, IsLocatedBy};
 ghost use Rattle.slot_store.specs.Memory.{HasPlanRoom};
 ghost use Rattle.slot_store.specs.Outcome.{IsForStore};
 ghost use Rattle.slot_store.specs.Scratch.{HasTables};
 ghost use Rattle.slot_store.specs.Store.{HasArea};
 
-use crate::area::{Area, record_most};
-use crate::draft::Draft;
-use crate::grammar::Grammar;
-use crate::judging::{Judged, judge};
-use crate::kept::Kept;
-use crate::loading::{Loaded, load};
+use crate::area::{Area, bounds, layout, record_most};
 use crate::pager::Pager;
 use crate::scratch::Scratch;
 use crate::table::number;
 use dr_disk::{Call, Disk};
+use paged_records::{Draft, Grammar, Kept, Loaded, load};
+use pages::{Judged, judge};
 
 /// A pager of what counts, a record or none; or the number of a damaged table, and the place.
 #[derive(Drop)]
@@ -37,7 +34,7 @@ fn pager_of(area: Area, second: bool, turn: u8, kept: Kept, draft: Draft) -> Pag
     requires turns { turn ≤ 3 }
     requires none { turn ≡ 0 → kept.len ≡ 0 }
     requires room { HasRoomToLoad area kept }
-    requires entries { entry_fault area.pages [] 6 kept.numbers.items ≡ None }
+    requires entries { entry_fault 2 area.pages [] 6 kept.numbers.items ≡ None }
     requires dropped { draft.plan.dropped.items ≡ [] }
     requires plans { HasPlanRoom area draft }
     ensures area { result.area ≡ area }
@@ -77,7 +74,8 @@ fn locate_newer<G: Grammar, D: Disk>(
         (D.state disk.old) (D.state disk.new) result }
     ensures read { IfOk result (IsLocatedBy G.has_read reader.old reader.new) }
 {
-    let kept = match load(disk, area, kept, body, reader) {
+    let _size = disk.size();
+    let kept = match load(disk, layout(area), bounds(area), kept, body, reader) {
         Ok(Loaded::Whole { kept }) => kept,
         Ok(Loaded::Faulty { at }) => {
             return Ok(Located::Faulty {

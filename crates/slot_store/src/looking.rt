@@ -1,14 +1,14 @@
 //! Whether an area is at rest for a pager's record, or for none.
 
-ghost use Rattle.std.specs.Prelude.{◌≡◌, ◌+◌, ◌↔◌, ◌&&◌, ◌==◌, ℕ, false, length, get_or, replicate, if◌then◌else◌, IsTrue};
+ghost use Rattle.std.specs.Prelude.{◌≡◌, ◌+◌, ◌*◌, ◌↔◌, ◌&&◌, ◌==◌, ℕ, false, length, get_or, replicate, if◌then◌else◌, IsTrue};
 ghost use Rattle.dr_base.specs.declared.limits.TheConstants.{PAGE};
 ghost use Rattle.dr_disk.specs.State.{OnSeen};
 ghost use Rattle.pages.specs.Clearing.{AreBlank};
 ghost use Rattle.pages.specs.Tables.{wiped};
 ghost use Rattle.record_pages.specs.Plans.{is_among};
 ghost use Rattle.slot_store.specs.Areas.{layout_of};
-ghost use Rattle.slot_store.specs.Finds.{Finds};
-ghost use Rattle.slot_store.specs.Judged.{table_with};
+ghost use Rattle.pages.specs.Finds.{Finds};
+ghost use Rattle.pages.specs.Judged.{table_with};
 ghost use Rattle.slot_store.specs.Pager.{IsLaidFor};
 ghost use Rattle.slot_store.specs.Scratch.{HasTables};
 ghost use Rattle.slot_store.specs.Settling.{HasShot};
@@ -19,7 +19,7 @@ use crate::pager::Pager;
 use crate::scratch::Scratch;
 use crate::settling::mark_pages;
 use dr_disk::{Call, Disk};
-use pages::{are_blank, is_blank};
+use pages::{ROW_PAGES, are_blank, is_blank};
 
 /// Whether a table is zeros that was read with this gate, and with these bytes after it.
 fn is_wiped(gate: u8, body: &[u8]) -> bool
@@ -45,11 +45,11 @@ fn others_blank<D: Disk>(
     disk: &mut D,
     pager: &Pager,
     named: &mut [bool],
-    page: &mut [u8],
+    room: &mut [u8],
 ) -> Result<bool, Call>
     requires within { HasArea pager.now.area (D.state disk.old) }
     requires marks { named.old ≡ replicate pager.now.area.pages false }
-    requires room { length page.old ≡ PAGE }
+    requires room { length room.old ≡ PAGE * ROW_PAGES }
     ensures marks { (n : ℕ) → get_or named.new n false
         ≡ is_among pager.now.kept.numbers.items n }
     ensures blank { Finds (λ disk blank. OnSeen (λ s. IsTrue blank
@@ -58,7 +58,7 @@ fn others_blank<D: Disk>(
 {
     let _size = disk.size();
     mark_pages(&pager.kept.numbers, named);
-    match are_blank(disk, layout(pager.area), named, page) {
+    match are_blank(disk, layout(pager.area), named, room) {
         Ok(blank) => Ok(blank),
         Err(call) => Err(call),
     }
@@ -84,7 +84,7 @@ pub(crate) fn rests<D: Disk>(
     if !others_wiped(pager, first, second) {
         return Ok(false);
     }
-    match others_blank(disk, pager, &mut scratch.named, &mut scratch.page) {
+    match others_blank(disk, pager, &mut scratch.named, &mut scratch.room) {
         Ok(laid) => Ok(laid),
         Err(call) => Err(call),
     }

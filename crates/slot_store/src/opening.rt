@@ -12,17 +12,14 @@ ghost use Rattle.slot_store.specs.Outcome.{IsForStore, opening_answer};
 ghost use Rattle.slot_store.specs.Scratch.{IsScratch};
 ghost use Rattle.slot_store.specs.Store.{HasArea, content};
 
-use crate::area::Area;
-use crate::draft::Draft;
+use crate::area::{Area, bounds};
 use crate::errors::OpenError;
-use crate::grammar::Grammar;
-use crate::kept::Kept;
 use crate::outcome::{Outcome, open_read};
-use crate::planning::take_draft;
 use crate::reading::settle_and_read;
 use crate::scratch::Scratch;
 use crate::store::SlotStore;
 use dr_disk::{Call, Disk};
+use paged_records::{Draft, Grammar, Kept, take_draft};
 use std::alloc::{AllocError, Global};
 
 /// What a store was opened with.
@@ -39,8 +36,8 @@ pub(crate) fn take_memory(alloc: Global, area: Area) -> Result<(Kept, Draft, Scr
     ensures store { IfOk result (λ memory. IsForStore area memory.0 memory.1) }
     ensures scratch { IfOk result (λ memory. IsScratch area memory.2) }
 {
-    let kept = Kept::none(alloc, area)?;
-    let draft = take_draft(alloc, area)?;
+    let kept = Kept::none(alloc, bounds(area))?;
+    let draft = take_draft(alloc, bounds(area))?;
     let scratch = Scratch::take(alloc, area)?;
     Ok((kept, draft, scratch))
 }

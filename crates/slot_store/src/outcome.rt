@@ -9,15 +9,13 @@ ghost use Rattle.slot_store.specs.Scratch.{HasTables};
 ghost use Rattle.slot_store.specs.Settling.{MaySettle, Settles};
 
 use crate::area::Area;
-use crate::draft::Draft;
-use crate::grammar::Grammar;
-use crate::kept::Kept;
 use crate::locating::{Located, locate};
 use crate::opening::Found;
 use crate::pager::Pager;
 use crate::scratch::Scratch;
 use crate::settling::{settle_empty, settle_newer};
 use dr_disk::{Call, Disk};
+use paged_records::{Draft, Grammar, Kept};
 
 /// What opening comes to: a pager, or the number of a damaged table, and the place.
 #[derive(Drop)]
@@ -54,7 +52,7 @@ fn settle<D: Disk>(
     let Scratch {
         first,
         second,
-        page,
+        room,
         named,
     } = scratch;
     if pager.turn == 0 {
@@ -66,13 +64,13 @@ fn settle<D: Disk>(
             second_gate,
             second,
             named,
-            page,
+            room,
         );
     }
     if pager.second {
-        settle_newer(disk, pager, first_gate, first, named, page)
+        settle_newer(disk, pager, first_gate, first, named, room)
     } else {
-        settle_newer(disk, pager, second_gate, second, named, page)
+        settle_newer(disk, pager, second_gate, second, named, room)
     }
 }
 

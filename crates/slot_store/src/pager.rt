@@ -14,14 +14,13 @@ ghost use Rattle.pages.specs.Runs.{FailsBy};
 ghost use Rattle.pages.specs.Stops.{put_call};
 ghost use Rattle.slot_store.specs.Stops.{putting, writes_of};
 
-use crate::area::{Area, layout};
-use crate::draft::Draft;
+use crate::area::{Area, bounds, layout};
 use crate::errors::StoreFault;
-use crate::kept::Kept;
-use crate::planning::replan;
-use crate::table::{RecordTable, next};
+use crate::table::RecordTable;
 use dr_base::PAGE;
 use dr_disk::Disk;
+use paged_records::{Draft, Kept, replan};
+use pages::next_turn;
 use record_pages::lay_out_table;
 
 /// The record of an area of a disk, with the memory that was taken at opening.
@@ -42,9 +41,9 @@ pub(crate) struct Pager {
     ghost none: { turn ≡ 0 → kept.len ≡ 0 },
     ghost few: { kept.len ≤ PAGE * area.most },
     ghost long: { HasRecordMemory area kept.bytes },
-    ghost entries: { entry_fault area.pages [] 6 kept.numbers.items ≡ None },
+    ghost entries: { entry_fault 2 area.pages [] 6 kept.numbers.items ≡ None },
     ghost numbers: { area.most ≤ vec_capacity kept.numbers },
-    ghost drops: { entry_fault area.pages [] 6 draft.plan.dropped.items ≡ None },
+    ghost drops: { entry_fault 2 area.pages [] 6 draft.plan.dropped.items ≡ None },
     ghost room: { HasPlanRoom area draft },
 }
 
@@ -68,9 +67,15 @@ impl Pager {
         ensures staged { IsStaged self.old self.new (take len text.old.items) }
         ensures room { HasRecordMemory self.old.area text.new }
     {
-        let turn = next(self.turn);
+        let turn = next_turn(self.turn);
         self.replaced = self.turn != 0;
-        replan(self.area, &mut self.kept, &mut self.draft, text, len);
+        replan(
+            bounds(self.area),
+            &mut self.kept,
+            &mut self.draft,
+            text,
+            len,
+        );
         lay_out_table(&mut self.draft.body, turn, len as u32, &self.kept.numbers);
         self.turn = turn;
         self.second = !self.second;

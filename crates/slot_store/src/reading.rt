@@ -10,8 +10,8 @@ ghost use Rattle.dr_disk.specs.Called.{Went, itself};
 ghost use Rattle.pages.specs.Layouts.{table_place};
 ghost use Rattle.pages.specs.Tables.{table_at};
 ghost use Rattle.slot_store.specs.Areas.{layout_of};
-ghost use Rattle.slot_store.specs.Finds.{Finds};
-ghost use Rattle.slot_store.specs.Judged.{table_with};
+ghost use Rattle.pages.specs.Finds.{Finds};
+ghost use Rattle.pages.specs.Judged.{table_with};
 ghost use Rattle.slot_store.specs.Scratch.{HasTables, IsScratch};
 ghost use Rattle.slot_store.specs.Store.{HasArea};
 

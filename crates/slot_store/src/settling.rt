@@ -1,6 +1,6 @@
 //! What doesn't count is wiped: the other table, and the pages that the record doesn't have.
 
-ghost use Rattle.std.specs.Prelude.{◌≡◌, ◌≢◌, ◌+◌, ◌-◌, ◌<◌, ◌||◌, ℕ, All, false, true, not, length, replicate, get_or, OnOk};
+ghost use Rattle.std.specs.Prelude.{◌≡◌, ◌≢◌, ◌+◌, ◌-◌, ◌*◌, ◌<◌, ◌||◌, ℕ, All, false, true, not, length, replicate, get_or, OnOk};
 ghost use Rattle.dr_base.specs.declared.limits.TheConstants.{PAGE};
 ghost use Rattle.dr_disk.specs.State.{Always, IsSettled, OnSeen};
 ghost use Rattle.pages.specs.declared.layout.TheConstants.{OPEN};
@@ -11,7 +11,7 @@ ghost use Rattle.pages.specs.Tidying.{AreNamed, IsMute, IsTidied};
 ghost use Rattle.record_pages.specs.Plans.{is_among};
 ghost use Rattle.record_pages.specs.Tables.{record_names};
 ghost use Rattle.slot_store.specs.Areas.{layout_of};
-ghost use Rattle.slot_store.specs.Judged.{table_with};
+ghost use Rattle.pages.specs.Judged.{table_with};
 ghost use Rattle.slot_store.specs.Settling.{AreTablesRead, IsSettledArea, MaySettle, Settles};
 
 use crate::area::{Area, layout};
@@ -19,7 +19,7 @@ use crate::pager::Pager;
 use crate::table::RecordTable;
 use dr_base::PAGE;
 use dr_disk::{Call, Disk};
-use pages::is_blank;
+use pages::{ROW_PAGES, is_blank};
 
 /// Marks the pages of these numbers.
 pub(crate) fn mark_pages(numbers: &[u32], named: &mut [bool])
@@ -42,13 +42,13 @@ fn wipe_table<D: Disk>(
     gate: u8,
     body: &[u8],
     named: &[bool],
-    page: &mut [u8],
+    room: &mut [u8],
     zeros: &[u8],
 ) -> Result<(), Call>
     requires ready { IsSettledArea area (D.state disk.old) }
     requires long { length body.now + 1 ≡ PAGE }
     requires marks { length named.now ≡ area.pages }
-    requires room { length page.old ≡ PAGE }
+    requires room { length room.old ≡ PAGE * ROW_PAGES }
     requires zero { zeros.now ≡ replicate PAGE 0 }
     requires read { OnSeen (λ s. table_at (layout_of area) second s ≡ table_with gate body.now)
         (D.state disk.old) }
@@ -73,7 +73,7 @@ fn wipe_table<D: Disk>(
         gate,
         blank,
         named,
-        page,
+        room,
         zeros,
         &zeros[..PAGE - 1],
     ) {
@@ -90,13 +90,13 @@ pub(crate) fn settle_newer<D: Disk>(
     gate: u8,
     other: &[u8],
     named: &mut [bool],
-    page: &mut [u8],
+    room: &mut [u8],
 ) -> Result<(), Call>
     requires settling { MaySettle pager.now (D.state disk.old) }
     requires turn { pager.now.turn ≢ 0 }
     requires long { length other.now + 1 ≡ PAGE }
     requires marks { named.old ≡ replicate pager.now.area.pages false }
-    requires room { length page.old ≡ PAGE }
+    requires room { length room.old ≡ PAGE * ROW_PAGES }
     requires read { OnSeen (λ s. table_at (layout_of pager.now.area) (not pager.now.second) s
         ≡ table_with gate other.now) (D.state disk.old) }
     ensures { Settles pager.now (D.state disk.old) (D.state disk.new) result }
@@ -109,7 +109,7 @@ pub(crate) fn settle_newer<D: Disk>(
         gate,
         other,
         named,
-        page,
+        room,
         &pager.draft.zeros,
     )
 }
@@ -123,14 +123,14 @@ pub(crate) fn settle_empty<D: Disk>(
     second_gate: u8,
     second: &[u8],
     named: &[bool],
-    page: &mut [u8],
+    room: &mut [u8],
 ) -> Result<(), Call>
     requires settling { MaySettle pager.now (D.state disk.old) }
     requires turn { pager.now.turn ≡ 0 }
     requires first_long { length first.now + 1 ≡ PAGE }
     requires second_long { length second.now + 1 ≡ PAGE }
     requires marks { named.now ≡ replicate pager.now.area.pages false }
-    requires room { length page.old ≡ PAGE }
+    requires room { length room.old ≡ PAGE * ROW_PAGES }
     requires read { AreTablesRead pager.now.area (table_with first_gate first.now)
         (table_with second_gate second.now) (D.state disk.old) }
     ensures { Settles pager.now (D.state disk.old) (D.state disk.new) result }
@@ -142,7 +142,7 @@ pub(crate) fn settle_empty<D: Disk>(
         first_gate,
         first,
         named,
-        page,
+        room,
         &pager.draft.zeros,
     ) {
         Ok(()) => {}
@@ -155,7 +155,7 @@ pub(crate) fn settle_empty<D: Disk>(
         second_gate,
         second,
         named,
-        page,
+        room,
         &pager.draft.zeros,
     )
 }

@@ -1,7 +1,6 @@
 //! The table of a record, as the pages of a disk know it.
 
-ghost use Rattle.std.specs.Prelude.{◌≡◌, ◌≤◌};
-ghost use Rattle.pages.specs.Tables.{turn_after};
+ghost use Rattle.std.specs.Prelude.{◌≡◌};
 ghost use Rattle.slot_store.specs.Reading.{table_number};
 
 use pages::Directory;
@@ -13,16 +12,6 @@ impl Directory for RecordTable {
     ghost use Rattle.record_pages.specs.Tables.{record_names};
 
     ghost names = { record_names };
-}
-
-/// The turn that follows.
-pub(crate) fn next(turn: u8) -> u8
-    requires { turn ≤ 3 }
-    ensures next { result ≡ turn_after turn }
-    ensures low { 1 ≤ result }
-    ensures high { result ≤ 3 }
-{
-    if turn == 3 { 1 } else { turn + 1 }
 }
 
 /// The number of a table.

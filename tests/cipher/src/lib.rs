@@ -1,5 +1,5 @@
-//! Tests of the crates of symmetric cryptography: the vectors of their standards, and values of
-//! other implementations.
+//! Tests of the crates of symmetric cryptography, and of the tags of a relay's tokens: the vectors of
+//! their standards, and values of other implementations.
 #![tactic(auto)]
 
 #[cfg(test)]
@@ -14,3 +14,5 @@ mod message_keys;
 mod root;
 #[cfg(test)]
 mod sealing;
+#[cfg(test)]
+mod tokens;

@@ -3,7 +3,7 @@
 use crate::conversation::{Packet, say, take};
 use crate::versions::has_digest;
 use bodies::Format;
-use boxes::{Inbox, Outbox};
+use boxes::{Inbox, Outbox, TEXT_KIND};
 use dr_base::{Key32, Position, Side};
 use kem_laws::OpenKem;
 use ratchet::Session;
@@ -52,7 +52,8 @@ impl Party {
     pub(crate) fn takes(&mut self, position: (u32, u32), packet: &Packet) -> Result<(), Fail> {
         let (epoch, index) = position;
         let text = take(&mut self.session, packet)?;
-        self.inbox.push(Position { epoch, index }, text.as_slice())?;
+        self.inbox
+            .push(Position { epoch, index }, TEXT_KIND, text.as_slice())?;
         Ok(())
     }
 

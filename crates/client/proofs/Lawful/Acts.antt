@@ -4,7 +4,7 @@ use Rattle.std.specs.Prelude.{nat_le, nat_lt}
 use Rattle.std.proofs.lemmas.Bool.Decides.{nat_tests}
 use Rattle.std.proofs.lemmas.List.{length-drop}
 use Rattle.std.proofs.lemmas.List.Elements.{All-drop}
-use Rattle.boxes.specs.Entries.{entry_under}
+use Rattle.boxes.specs.Entries.{entry_with}
 use Rattle.cka.specs.Agreement.{agreement_size}
 use Rattle.dr_base.specs.declared.limits.TheConstants.{INBOX_LIMIT, OUTBOX_LIMIT, TEXT_LIMIT}
 use Rattle.dr_model.specs.Machines.Acts.{act_on, dropped_client, dropping, standing_with}
@@ -65,7 +65,7 @@ drafted_lawful k c f (Err refusal) taken l packet gives is = absurd (let no : Er
 drafted_lawful k c f (Ok draft) taken l packet gives is =
     let one : TakenPacket = record {
       position = draft.position;
-      next = record c { state = draft.next; inbox = c.inbox ++ entry_under draft.position draft.text ∷ [] };
+      next = record c { state = draft.next; inbox = c.inbox ++ entry_with draft.position draft.kind draft.text ∷ [] };
     } in
     let under = passes (nat_le INBOX_LIMIT (length c.inbox)) _ (Ok one) taken is in
     let room : length c.inbox < INBOX_LIMIT = let no = under.0 in grind (arith, nat_tests) in

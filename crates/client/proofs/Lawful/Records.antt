@@ -1,7 +1,7 @@
 -- What a side keeps in a lawful world has a record.
 use Rattle.std.proofs.Common.{Bool, List, [], ap, arith, length, map, refl, sym, true, ℕ, ◌-◌, ◌∙◌, ◌∷◌, ◌≡◌, ◌≤◌}
-use Rattle.std.specs.Prelude.{All, filter, slice_index_or}
-use Rattle.std.proofs.lemmas.List.Elements.{All-drop, All-filter, All-map, filter_passes}
+use Rattle.std.specs.Prelude.{All, filter, not, slice_index_or}
+use Rattle.std.proofs.lemmas.List.Elements.{All-drop, All-filter, All-map, All-weaker, filter_passes}
 use Rattle.cka.specs.Agreement.{agreement_size}
 use Rattle.dr_base.specs.Position.{is_own}
 use Rattle.dr_base.specs.declared.limits.TheConstants.{AGREEMENT_LIMIT}
@@ -17,6 +17,7 @@ use Rattle.session_record.specs.Lawful.{IsLawfulClient, IsLawfulEntry, IsLawfulP
 use Rattle.dr_model.specs.Conversations.Conversation.{Conversation, is_said, positions}
 use Rattle.dr_model.specs.Conversations.Lawful.{HasArrived, IsLawfulConversation, IsLawfulView}
 use Rattle.dr_model.specs.Conversations.Posts.{post_fields, key_of, post_at, turn_of_epoch}
+use Rattle.dr_model.specs.Conversations.Standing.{is_in, standing}
 use Rattle.dr_model.specs.Conversations.ViewStates.{state_of}
 use Rattle.dr_model.specs.Conversations.Views.{View, entry_at, inbox_of, missing_of, outbox_of}
 use Rattle.dr_model.specs.Machines.WorldSides.{kept_in}
@@ -47,15 +48,16 @@ entry_lawful : (k : Mechanism) (c : Conversation) (v : View) (p : Position) → 
     → IsLawfulEntry (state_of k c v) (entry_at c p)
 entry_lawful k c v p lawful has =
     let place = is_place k c p lawful has.said in
-    record { peers = has.peers; reached = has.reached; from_one = place.one; most = place.few; short = place.short }
+    record { peers = has.peers; reached = has.reached; from_one = place.one; most = place.few; kind = (lawful.bodies p has.said).kind; short = place.short }
 
 entries_lawful : (k : Mechanism) (c : Conversation) (side : Side) (v : View) → IsLawfulConversation k c
     → IsLawfulView k c side v → All (IsLawfulEntry (state_of k c v)) (inbox_of c v)
 entries_lawful k c side v lawful view =
     let Q = IsLawfulEntry (state_of k c v) in
-    All-drop Q v.done (map (entry_at c) v.arrived)
-    (All-map Q (entry_at c) v.arrived
-    (λ i d inside. entry_lawful k c v (slice_index_or v.arrived i d) lawful (view.arrivals i d inside)))
+    let stand = standing v.arrived v.done in
+    All-map Q (entry_at c) stand
+    (All-weaker (HasArrived c v) (λ p. Q (entry_at c p)) (λ p has. entry_lawful k c v p lawful has) stand
+    (All-filter (λ p. not (is_in v.done p)) (HasArrived c v) v.arrived view.arrivals))
 
 -- ---- the outbox
 

@@ -48,6 +48,7 @@ entries_stay s next inbox on each =
       reached = omega (arith, l.reached, on.grows);
       from_one = l.from_one;
       most = l.most;
+      kind = l.kind;
       short = l.short;
     }) inbox each
 

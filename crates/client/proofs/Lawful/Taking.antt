@@ -5,13 +5,15 @@ use Rattle.std.specs.Prelude.{All, if◌then◌else◌, nat_eq, nat_le, nat_lt, 
 use Rattle.std.proofs.lemmas.Bool.Decides.{nat_tests}
 use Rattle.std.proofs.lemmas.List.{length_push}
 use Rattle.std.proofs.lemmas.List.Elements.{All-append, All-filter, All-nil, All-push}
-use Rattle.boxes.specs.Entries.{entry_under}
+use Rattle.boxes.specs.declared.kinds.TheConstants.{TEXT_KIND}
+use Rattle.boxes.specs.Entries.{entry_with}
 use Rattle.cka.specs.Agreement.{agreement_size}
 use Rattle.dr_base.specs.Position.{is_own}
 use Rattle.dr_base.specs.declared.key.Kept.{Kept}
 use Rattle.dr_base.specs.declared.limits.TheConstants.{INBOX_LIMIT, KEPT_LIMIT, PLAIN, TEXT_LIMIT}
 use Rattle.dr_base.specs.declared.position.Position.{Position}
 use Rattle.dr_base.specs.declared.position.Side.{Side}
+use Rattle.bodies.proofs.Opened.{opened-kind}
 use Rattle.bodies.proofs.Short.{opened_short}
 use Rattle.etm_aead.specs.Undoing.{length-ciphertext_of}
 use Rattle.fs_aead.specs.Chain.{chain_message_key, chain_of, message_key}
@@ -164,6 +166,7 @@ taken_way k s f way long is =
 record IsTakenOf (s : State) (f : Fields) (draft : ReceiveDraft) : Type 0 where
   peers : IsPeers s f draft.next
   place : draft.position ≡ position_of f
+  kind : draft.kind ≡ TEXT_KIND
   short : (f.version ≡ PLAIN → length f.ciphertext ≤ TEXT_LIMIT) → length draft.text ≤ TEXT_LIMIT
 
 opened_on : (s : State) (f : Fields) (way : Way) (draft : ReceiveDraft) → IsPeers s f way.next
@@ -182,6 +185,7 @@ opened_on s f way draft peers is =
         peers = peers.peers;
       };
       place = refl;
+      kind = opened-kind f.version _ _ o.body o.opens;
       short = λ plain. opened_short f.version _ _ o.body o.opens
           (λ version. omega (arith, plain version, length-ciphertext_of way.key f.ciphertext));
     })
@@ -194,7 +198,7 @@ opened_way k s f (Ok way) draft long found is = opened_on s f way draft (taken_w
 -- ---- the client
 
 entry_lawful : (k : Mechanism) (s : State) (f : Fields) (draft : ReceiveDraft) → IsLawful (agreement_size k) f
-    → IsTakenOf s f draft → IsLawfulEntry draft.next (entry_under draft.position draft.text)
+    → IsTakenOf s f draft → IsLawfulEntry draft.next (entry_with draft.position draft.kind draft.text)
 entry_lawful k s f draft packet o =
     let epoch : draft.position.epoch ≡ f.epoch = ap (λ (p : Position). p.epoch) o.place in
     let index : draft.position.index ≡ f.index = ap (λ (p : Position). p.index) o.place in
@@ -205,17 +209,18 @@ entry_lawful k s f draft packet o =
       reached = omega (arith, epoch, o.peers.taken.reached);
       from_one = omega (arith, index, packet.index_from_one);
       most = omega (arith, index, packet.index_fits);
+      kind = o.kind;
       short = o.short (plain_few f.version (length f.ciphertext) packet.text_fits);
     }
 
 pub taken_lawful : (k : Mechanism) (c : Client) (f : Fields) (draft : ReceiveDraft) → IsLawful (agreement_size k) f
     → IsLawfulClient k c → IsLawfulState k draft.next → length c.inbox < INBOX_LIMIT
     → draft_receive k c.state f ≡ Ok draft
-    → IsLawfulClient k (client_of draft.next (c.inbox ++ entry_under draft.position draft.text ∷ []) c.outbox)
+    → IsLawfulClient k (client_of draft.next (c.inbox ++ entry_with draft.position draft.kind draft.text ∷ []) c.outbox)
 unfolding draft_receive
 taken_lawful k c f draft packet l after room gives =
     let o = opened_way k c.state f (way_of k c.state f) draft l.keys_long refl gives in
-    let item = entry_under draft.position draft.text in
+    let item = entry_with draft.position draft.kind draft.text in
     record {
       state = after;
       keys_long = o.peers.taken.long;

@@ -1,5 +1,5 @@
 -- What the receipts of a sync's packets cover was opened by the other side.
-use Rattle.std.proofs.Common.{Bool, Err, List, None, Ok, Option, Some, ap, false, if◌then◌else◌, inl, inr, length, nat_le, nat_lt, refl, subst, sym, true, ℕ, ◌∙◌, ◌≡◌}
+use Rattle.std.proofs.Common.{Bool, Err, List, None, Ok, Option, Some, ap, false, if◌then◌else◌, inl, inr, length, nat_le, nat_lt, refl, subst, sym, true, ℕ, ◌++◌, ◌∙◌, ◌≡◌}
 use Rattle.std.specs.List.{list_any}
 use Rattle.std.proofs.lemmas.Bool.{cases_Bool}
 use Rattle.dr_base.specs.Position.{is_at, is_own, peer_of}
@@ -25,10 +25,10 @@ use Rattle.session_model.specs.declared.answer.Items.TheVariants.{Packets}
 use Rattle.session_model.specs.declared.answer.Refusal.{Refusal}
 use Rattle.session_model.specs.declared.answer.Refusal.TheVariants.{Fewer, InboxFull, OwnPacket, SkipLimit, Spent}
 use Rattle.sync_model.specs.Courses.{begun}
-use Rattle.client.specs.Syncing.InWorlds.{AreUnforged, SyncArrives}
+use Rattle.client.specs.Syncing.InWorlds.{AreUnforged, course_in}
 use Rattle.client.specs.Syncing.Parties.{oldest_sent, world_party}
 use Rattle.client.proofs.Later.{act_later, fair_split, lawful_at}
-use Rattle.client.proofs.Syncs.Steps.{course_leads}
+use Rattle.client.proofs.Syncs.Steps.{HoldsOfSteps, course_leads}
 
 -- ---- the other side's view
 
@@ -89,12 +89,12 @@ module _ (k : Mechanism) (side : Side) where
   module _ (p : Position) where
     -- what a side's own steps led to: a lawful world, in which the other side's view is as it was, and where a text that waited
     -- waits no more, it was opened there
-    record Led (w v : World) : Type 0 where
+    pub record Led (w v : World) : Type 0 where
       pub lawful : IsLawfulWorld k v
       pub others : view_of v (peer_of side) ≡ view_of w (peer_of side)
       pub arrived : EndsWaiting w v side p → has_opened (view_of w (peer_of side)) p ≡ true
 
-    abbrev LeadsOn : World → World → Type 0
+    abbrev pub LeadsOn : World → World → Type 0
     LeadsOn w v = IsLawfulWorld k w → Led w v
 
     none_ended : (w v : World) → waits_in v side p ≡ waits_in w side p → EndsWaiting w v side p
@@ -132,11 +132,16 @@ module _ (k : Mechanism) (side : Side) where
           ];
         }
 
+    -- so it is of each step of a sync
+    pub steps_arrive : (prefix : List ℕ) (first : World) → HoldsOfSteps k prefix side first LeadsOn
+    steps_arrive prefix first = record { none = stays; takes = takes_on; sends = sends_on; twice = both }
+
   -- over a beginning of the replies of a sync
   pub sync_arrives : (prefix : List ℕ) (w : World) (replies : List Replied) → IsLawfulWorld k w → AreUnforged k prefix side w replies
-      → SyncArrives k prefix side w replies
+      → (front back : List Replied) (p : Position) → replies ≡ front ++ back
+      → EndsWaiting w (course_in k prefix side w front).state side p → has_opened (view_of w (peer_of side)) p ≡ true
   sync_arrives prefix w replies lawful fair front back p split ends =
       let party = world_party k prefix side w in
       let fair_there = (fair_split k prefix side w front back (begun party w) (subst (AreUnforged k prefix side w) split fair)).0 in
-      (course_leads k prefix side w (LeadsOn p) (record { none = stays p; takes = takes_on p; sends = sends_on p; twice = both p })
+      (course_leads k prefix side w (LeadsOn p) (steps_arrive p prefix w)
       (begun party w) front fair_there lawful).arrived ends

@@ -46,14 +46,14 @@ some_is a b h = cc
 
 module _ (p : Party Client) where
   -- only a sync that did its work has a last line
-  no_last : (ending : Ending) (fault : SyncFault) → sync_fault_of ending ≡ Some fault → last_line p (over ending) ≡ []
+  pub no_last : (ending : Ending) (fault : SyncFault) → sync_fault_of ending ≡ Some fault → last_line p (over ending) ≡ []
   no_last (ended which) fault is = absurd (cc)
   no_last inbox_full fault is = refl
   no_last box_is_full fault is = refl
   no_last no_such_box fault is = refl
   no_last wrong fault is = refl
 
-  over_ends : (ending : Ending) (fault : SyncFault) (replies : List Replied) (a b : Moment) (start now : Port) → sync_fault_of ending ≡ Some fault
+  pub over_ends : (ending : Ending) (fault : SyncFault) (replies : List Replied) (a b : Moment) (start now : Port) → sync_fault_of ending ≡ Some fault
       → IsSyncOver p replies ending a b start now → EndsSync p replies a b start now (Err fault)
   over_ends (ended which) fault replies a b start now is ends = absurd (cc)
   over_ends inbox_full fault replies a b start now is ends =
@@ -74,7 +74,7 @@ module _ (p : Party Client) where
       (asks : asked_in p b.client.kept wait ≡ Some asked) where
     -- ---- with a reply
 
-    turned : (reply : Replied) (turn : RoundEnd) → IsReplied asked reply mid now → MovesTo (move p b.client.kept wait reply) b c turn → After a c start now turn
+    unfoldable pub turned : (reply : Replied) (turn : RoundEnd) → IsReplied asked reply mid now → MovesTo (move p b.client.kept wait reply) b c turn → After a c start now turn
     turned reply turn replied (went_on next waits moved wrote) = on p a b start mid wait far c now asked asks reply next replied waits moved wrote
     turned reply turn replied (came_to_end ending fault waits is moved wrote) =
         let next = then p a b start mid wait far c now asked asks reply in
@@ -142,7 +142,7 @@ module _ (p : Party Client) where
 
     -- ---- without one
 
-    stands_still : IsUnmoved b c → Stands p far.replies a c
+    pub stands_still : IsUnmoved b c → Stands p far.replies a c
     stands_still still = record {
       keeps = still.0.keeps ∙ far.stands.keeps;
       is_open = still.0.is_open;
@@ -151,13 +151,13 @@ module _ (p : Party Client) where
       fate = λ all. still.0.fate (far.stands.fate all);
     }
 
-    wrote_still : IsUnmoved b c → Wrote (course_of p a.client.kept far.replies).lines a c
+    pub wrote_still : IsUnmoved b c → Wrote (course_of p a.client.kept far.replies).lines a c
     wrote_still still = wrote_as _ _ a c (append-nil (course_of p a.client.kept far.replies).lines) (wrote_more (course_of p a.client.kept far.replies).lines [] a b c far.wrote still.1)
 
     asks_so : asked_in p (course_of p a.client.kept far.replies).state (course_of p a.client.kept far.replies).wait ≡ Some asked
     asks_so = ap (λ (s : Client). asked_in p s (course_of p a.client.kept far.replies).wait) (sym far.stands.keeps) ∙ ap (asked_in p b.client.kept) far.waits ∙ asks
 
-    broke : IsBroken (request_frame asked) mid now → IsRequestCut p a.client.kept far.replies start now
+    pub broke : IsBroken (request_frame asked) mid now → IsRequestCut p a.client.kept far.replies start now
     broke is = record {
       asked = asked;
       waits = asks_so;
@@ -179,7 +179,7 @@ module _ (p : Party Client) where
         ∙ bytes_last request_frame (course_of p a.client.kept far.replies).requests asked))
         (both (replied_bytes far.replies) got (request_bytes (course_of p a.client.kept far.replies).requests) (request_frame asked) start mid now far.talked.told told)
 
-    unheard : (fault : PeerFault) → IsFaulty (request_frame asked) mid now fault → IsUnheard p a.client.kept far.replies start now fault
+    pub unheard : (fault : PeerFault) → IsFaulty (request_frame asked) mid now fault → IsUnheard p a.client.kept far.replies start now fault
     unheard fault (unread frame bad told whole reads quiet) = record {
       asked = asked;
       waits = asks_so;
@@ -199,7 +199,7 @@ module _ (p : Party Client) where
       quiet = quiet ∙ far.talked.quiet;
     }
 
-    pub goes_round : (turn : RoundEnd) → IsRound p wait asked b c mid now turn → After a c start now turn
+    unfoldable pub goes_round : (turn : RoundEnd) → IsRound p wait asked b c mid now turn → After a c start now turn
     goes_round turn (heard reply then replied turns) = turned reply turn replied turns
     goes_round turn (was_broken broken still) = record {
       replies = far.replies;
@@ -220,7 +220,7 @@ module _ (p : Party Client) where
 
   -- ---- after the last packet
 
-  pub ends_well : (a b c : Moment) (start now : Port) (more : More) → SoFar p a b start now (over (ended more)) → Moved b.client.kept b c
+  unfoldable pub ends_well : (a b c : Moment) (start now : Port) (more : More) → SoFar p a b start now (over (ended more)) → Moved b.client.kept b c
       → Wrote (p.end_line more) b c → Syncs p a c start now (Ok more)
   ends_well a b c start now more far moved wrote = record {
     replies = far.replies;
@@ -243,7 +243,7 @@ module _ (p : Party Client) where
     };
   }
 
-  pub ends_unwritten : (a b c : Moment) (start now : Port) (more : More) → SoFar p a b start now (over (ended more)) → Moved b.client.kept b c
+  unfoldable pub ends_unwritten : (a b c : Moment) (start now : Port) (more : More) → SoFar p a b start now (over (ended more)) → Moved b.client.kept b c
       → WroteBeginning (p.end_line more) b c → Syncs p a c start now (Err Write)
   ends_unwritten a b c start now more far moved wrote = record {
     replies = far.replies;

@@ -59,7 +59,7 @@ wrote_beginning x y z a b c one two = record {
 module _ (p : Party Client) where
   -- ---- before the first reply
 
-  pub begins : (a : Moment) (start : Port) → a.client.closed ≡ None → IsReady a.client.kept a.client.store a.disk → SoFar p a a start start (fetching 0)
+  unfoldable pub begins : (a : Moment) (start : Port) → a.client.closed ≡ None → IsReady a.client.kept a.client.store a.disk → SoFar p a a start start (fetching 0)
   begins a start is_open ready = record {
     replies = [];
     lawful = tt;
@@ -134,7 +134,7 @@ module _ (p : Party Client) where
       lines_more reply wrote =
           wrote_as _ _ a c (sym (then reply).lines) (wrote_more (course_of p first far.replies).lines (at reply).lines a b c far.wrote wrote)
 
-      pub on : (reply : Replied) (next : Wait) → IsReplied asked reply mid now → (at reply).wait ≡ next → Moved (at reply).state b c → Wrote (at reply).lines b c
+      unfoldable pub on : (reply : Replied) (next : Wait) → IsReplied asked reply mid now → (at reply).wait ≡ next → Moved (at reply).state b c → Wrote (at reply).lines b c
           → SoFar p a c start now next
       on reply next replied waits moved wrote = record {
         replies = far.replies ++ reply ∷ [];

@@ -43,6 +43,20 @@ module _ (k : Mechanism) (prefix : List ℕ) (side : Side) (w : World) (known : 
       (λ (r : IsReachedIn k prefix side w replies a c). inr (subst (λ (xs : List Replied). IsKnown k side (known_after_sync k prefix side w [] xs) c) (sym r.split)
       (reaches k prefix side w r.front r.back (begun (world_party k prefix side w) w) c r.stands))) (left_by c left))
 
+  -- a call on the disk failed in the step of the last reply
+  pub step_links : (before : List Replied) (last : Replied) (replies : List Replied) (a b : DiskState) → replies ≡ before ++ last ∷ []
+      → AreUnforged k prefix side w replies
+      → Always (λ c. StandsFor k (course_in k prefix side w before).state side c ⊎ StandsFor k (course_in k prefix side w replies).state side c) b
+      → Link k side a b known (known_after_sync k prefix side w before (last ∷ []))
+  step_links before last replies a b split fair either =
+      let from = course_in k prefix side w before in
+      let after : course_in k prefix side w replies ≡ read_one (world_party k prefix side w) from last =
+      ap (course_in k prefix side w) split ∙ read_last (world_party k prefix side w) before last (begun (world_party k prefix side w) w) in
+      was_synced known w which prefix before (last ∷ []) (subst (AreUnforged k prefix side w) split fair)
+      (λ c left. ⊎_elim (λ old. inl old)
+      (λ new. inr (one_known client_cell k (read_one (world_party k prefix side w) from last).state side c
+      (subst (λ (x : Course World). StandsFor k x.state side c) after new))) (either c left))
+
   abbrev Ended : List Replied → Result More SyncFault → Moment → Moment → Type 0
   Ended replies result a b =
       (front back : List Replied) × (replies ≡ front ++ back) × AreLeft result back
@@ -65,19 +79,7 @@ module _ (k : Mechanism) (prefix : List ℕ) (side : Side) (w : World) (known : 
   ends replies a b (Err (Refused refusal)) fair leads = let all = whole replies a b fair leads.0 leads.1 in (replies, [], all.0, refl, leads.0, all.1)
   ends replies a b (Err Write) fair leads = let all = whole replies a b fair leads.0 leads.1 in (replies, [], all.0, refl, leads.0, all.1)
   ends replies a b (Err (Store call)) fair leads =
-      let before = leads.0 in
-      let last = leads.1 in
-      let after : course_in k prefix side w replies ≡ read_one (world_party k prefix side w) (course_in k prefix side w before) last =
-      ap (course_in k prefix side w) leads.2 ∙ read_last (world_party k prefix side w) before last (begun (world_party k prefix side w) w) in (
-        before,
-        last ∷ [],
-        leads.2,
-        (last, refl),
-        leads.3,
-        was_synced known w which prefix before (last ∷ []) (subst (AreUnforged k prefix side w) leads.2 fair) (λ c left. ⊎_elim (λ old. inl old)
-            (λ new. inr (one_known client_cell k (read_one (world_party k prefix side w) (course_in k prefix side w before) last).state side c
-            (subst (λ (x : Course World). StandsFor k x.state side c) after new))) (leads.4 c left)),
-      )
+      (leads.0, leads.1 ∷ [], leads.2, (leads.1, refl), leads.3, step_links leads.0 leads.1 replies a.disk b.disk leads.2 fair leads.4)
 
   pub ended_links : (replies : List Replied) (a b : Moment) (result : Result More SyncFault) → AreUnforged k prefix side w replies
       → SyncsIn k prefix side w replies a b result → Ended replies result a b

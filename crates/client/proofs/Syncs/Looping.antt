@@ -1,11 +1,12 @@
 -- The loops of a sync: which round comes next.
 use Rattle.std.proofs.Common.{Bool, List, None, Some, [], ap, arith, false, refl, true, ℕ, ◌+◌, ◌<◌, ◌==◌, ◌∷◌, ◌≡◌}
-use Rattle.std.specs.Prelude.{if◌then◌else◌, slice_get}
+use Rattle.std.specs.Prelude.{if◌then◌else◌, length, map, slice_get}
 use Rattle.std.proofs.lemmas.Bool.Decides.{nat_tests}
+use Rattle.boxes.specs.Posts.{Post}
 use Rattle.dr_ports.specs.Wires.{Port}
 use Rattle.relay_wire.specs.Requests.{Asked, posts}
 use Rattle.session_model.specs.Clients.{Client}
-use Rattle.sync_model.specs.Moves.{Wait, acking, acknowledged, posting_of, fetching, goes, move, posting, waits_by}
+use Rattle.sync_model.specs.Moves.{Wait, acking, acknowledged, ended, fetching, goes, move, over, posting, posting_of, waits_by}
 use Rattle.sync_model.specs.Parties.{Party}
 use Rattle.sync_model.specs.declared.limits.TheConstants.{ITEM_LIMIT}
 use Rattle.sync_model.specs.declared.more.More.{More}
@@ -33,6 +34,14 @@ one_more p s n = by_test (n + 1 == ITEM_LIMIT)
     by_test true = refl
     by_test false = refl
 
+-- all that a sync takes were acknowledged
+pub all_taken : (packets : List (List ℕ)) (n : ℕ) → n ≡ ITEM_LIMIT → collecting packets n ≡ waits_by packets MoreStands
+all_taken packets n is = by_test (n == ITEM_LIMIT) (grind (arith, nat_tests, is))
+  where
+    by_test : (test : Bool) → test ≡ true → (if test then waits_by packets MoreStands else fetching n) ≡ waits_by packets MoreStands
+    by_test true is_true = refl
+    by_test false is_true = absurd (let e : false ≡ true = is_true in cc)
+
 -- an acknowledgement as a round
 pub acks_round : (p : Party Client) (b : Moment) (client : ClientNow) (n number : ℕ) (asked : Asked) (start now : Port) (turn : RoundEnd) → client ≡ b.client
     → b.client.closed ≡ None → IsReady b.client.kept b.client.store b.disk
@@ -44,6 +53,10 @@ acks_round p b client n number asked start now turn same is_open ready (was_brok
 acks_round p b client n number asked start now turn same is_open ready (was_unheard at kind faulty still) = was_unheard at kind faulty (still_again b client same is_open ready)
 
 -- ---- the second part
+
+pub none_left : (items : List Post) → (0 < length items → ⊥) → (which : More) → waits_by (map (λ (i : Post). i.packet) items) which ≡ over (ended which)
+none_left [] not which = refl
+none_left (item ∷ items) not which = absurd (not (omega arith))
 
 pub posts_now : (packets : List (List ℕ)) (packet : List ℕ) → Some packet ≡ slice_get packets 0 → (which : More) → waits_by packets which ≡ posting which
 posts_now [] packet is which = absurd (let e : Some packet ≡ None = is in cc)

@@ -1,6 +1,7 @@
 -- A step of a client, as a sync makes it.
-use Rattle.std.proofs.Common.{Err, None, Ok, Result, Some, [], refl, subst, sym, ◌∙◌, ◌≡◌}
+use Rattle.std.proofs.Common.{Err, None, Ok, Result, Some, [], arith, inl, refl, subst, sym, ◌∙◌, ◌≡◌}
 use Rattle.dr_ports.proofs.Told.{appended-none}
+use Rattle.dr_disk.specs.Spans.{HavePassed}
 use Rattle.dr_disk.specs.State.{DiskState}
 use Rattle.dr_disk.proofs.Steps.{stays}
 use Rattle.dr_model.specs.Machines.Steps.{Step, settled, step}
@@ -11,6 +12,9 @@ use Rattle.session_record.specs.Record.{record_text}
 use Rattle.client.specs.Cells.{IsOldOrNewInCell, client_cell}
 use Rattle.client.specs.Clients.{ClientNow, IsReady}
 use Rattle.client.specs.Syncing.Moments.{HasMovedOn, IsTaken, Moment, Wrote}
+
+pub none_passed : (disk : DiskState) → HavePassed 0 disk disk
+none_passed disk = λ m told. (m, told, omega arith)
 
 -- nothing was done
 pub still : (client : ClientNow) (disk : DiskState) → client.closed ≡ None → IsReady client.kept client.store disk
@@ -23,6 +27,7 @@ still client disk is_open ready = record {
       stays disk
       (IsOldOrNewInCell client_cell disk (Some (record_text client.kept))
       (Some (record_text client.kept)));
+  counted = inl (refl, none_passed disk);
   quiet = λ call. refl;
   fate = λ all. all;
 }

@@ -22,7 +22,7 @@ use Rattle.client.specs.Syncing.Moments.{BrokenOff, Moment, Moved, Wrote, WroteB
 use Rattle.client.specs.Syncing.Rounds.{GetsReply, Hears, Idles, IsUnmoved, RoundEnd, MovesTo, came_to_end, sync_fault_of, goes_on, heard, idles_on, idles_to_end, stops, was_broken, was_unheard, was_unstored, was_unwritten, went_on}
 use Rattle.client.specs.declared.syncing.faults.SyncFault.{SyncFault}
 use Rattle.client.specs.declared.syncing.faults.SyncFault.TheVariants.{Closed, Link, Peer, Refused, Store, Write}
-use Rattle.client.proofs.Syncs.Moving.{still, wrote_nothing}
+use Rattle.client.proofs.Syncs.Moving.{none_passed, still, wrote_nothing}
 use Rattle.relay_pipe.specs.declared.faults.PeerKind.TheVariants.{Wrong}
 
 -- ---- a move, by its parts
@@ -138,7 +138,7 @@ module _ (made asked : Asked) (is : made ≡ asked) (start now : Port) (Makes : 
 pub still_again : (a : Moment) (client : ClientNow) → client ≡ a.client → a.client.closed ≡ None → IsReady a.client.kept a.client.store a.disk
     → IsUnmoved a (record a { client = client })
 still_again a client same is_open ready =
-    subst (λ (x : ClientNow). IsUnmoved a (record a { client = x })) (sym same) (still a.client a.disk is_open ready, wrote_nothing a a refl refl)
+    subst (λ (x : ClientNow). IsUnmoved a (record a { client = x })) (sym same) (still a.client a.disk is_open ready, wrote_nothing a a refl refl, none_passed a.disk)
 
 -- a move that asks for nothing, over a reply
 pub idles_again : (p : Party Client) (a : Moment) (client : ClientNow) (m : Move Client) (turn : RoundEnd) → Idles p a.client.kept m turn → client ≡ a.client

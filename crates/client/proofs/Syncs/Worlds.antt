@@ -1,11 +1,12 @@
 -- A sync in the worlds that the client stands for.
-use Rattle.std.proofs.Common.{Err, List, Ok, Result, [], ap, inl, inr, refl, subst, ℕ, ⊎_elim, ◌++◌, ◌∙◌, ◌∷◌, ◌≡◌}
+use Rattle.std.proofs.Common.{Err, List, Ok, Result, [], ap, append-nil, inl, inr, refl, subst, sym, ℕ, ⊎_elim, ◌++◌, ◌∙◌, ◌∷◌, ◌≡◌}
 use Rattle.dr_base.specs.declared.position.Side.{Side}
 use Rattle.dr_disk.specs.State.{Always}
 use Rattle.dr_disk.proofs.Steps.{widen}
 use Rattle.dr_model.specs.Machines.Acts.{Act, act_on, taking}
 use Rattle.dr_model.specs.Machines.WorldActs.{act_in, kept_by}
 use Rattle.dr_model.specs.Machines.Steps.{Step, settled}
+use Rattle.dr_model.specs.Machines.WorldSides.{kept_in}
 use Rattle.dr_model.specs.Machines.Worlds.{World}
 use Rattle.dr_model.specs.Theorems.Acting.{IsFairAct}
 use Rattle.dr_model.specs.Theorems.Fairness.{IsUnforged}
@@ -21,6 +22,7 @@ use Rattle.sync_model.proofs.Alike.{alike}
 use Rattle.client.specs.Cells.{client_cell}
 use Rattle.client.specs.Grounds.{Grounds}
 use Rattle.client.specs.InWorlds.{IsIn, StandsFor}
+use Rattle.client.specs.Receipts.{HaveArrived, TellTruly, waits}
 use Rattle.client.specs.Syncing.InWorlds.{AreUnforged, IsKeptIn, IsReachedIn, LeadsTo, SyncsIn, course_in}
 use Rattle.client.specs.Syncing.Lines.{answer_line, own_box, peers_box}
 use Rattle.client.specs.Syncing.Moments.{Moment}
@@ -30,6 +32,7 @@ use Rattle.client.specs.Syncing.Syncs.{EndsSync, SyncsBy}
 use Rattle.client.specs.declared.syncing.faults.SyncFault.{SyncFault}
 use Rattle.client.specs.declared.syncing.faults.SyncFault.TheVariants.{Closed, Link, Peer, Refused, Store, Write}
 use Rattle.client.proofs.Lifted.{ready_stands, record_stands}
+use Rattle.client.proofs.Receipts.{one_client}
 use Rattle.client.proofs.Syncs.Covered.{sync_arrives}
 
 -- what is fair for all replies is fair for a beginning of them
@@ -121,6 +124,35 @@ module _ (k : Mechanism) (grounds : Grounds k) (prefix : List ℕ) (side : Side)
         )
     leads start now (Err Write) ends = stands_in ends.stands
 
+    -- what a client kept after a beginning of the replies tells the truth
+    truly : (front back : List Replied) → replies ≡ front ++ back → (after : Client)
+        → after ≡ kept_in k (course_in k prefix side w front).state side → HaveArrived w side (kept_in k w side) after
+    truly front back split after is p waited over =
+        sync_arrives k side prefix w replies is_in.lawful fair front back p split
+        (record { waited = waited; over = ap (λ (c : Client). waits c p) (sym is) ∙ over })
+
+    shown_truly : (front back : List Replied) → replies ≡ front ++ back → IsIn k (course_in k prefix side w front).state side b.client
+        → HaveArrived w side a.client.kept b.client.kept
+    shown_truly front back split is =
+        subst (λ (before : Client). HaveArrived w side before b.client.kept) (sym is_in.keeps) (truly front back split b.client.kept is.keeps)
+
+    told_truly : (front back : List Replied) → replies ≡ front ++ back → (c : List ℕ)
+        → StandsFor k (course_in k prefix side w front).state side c → TellTruly k w side c
+    told_truly front back split c stands after reads =
+        truly front back split after (one_client _ after (kept_in k (course_in k prefix side w front).state side) reads stands)
+
+    last_truly : IsIn k (course_in k prefix side w replies).state side b.client → HaveArrived w side a.client.kept b.client.kept
+    last_truly = shown_truly replies [] (sym (append-nil replies))
+
+    shown : (result : Result More SyncFault) → LeadsTo k prefix side w replies b result → HaveArrived w side a.client.kept b.client.kept
+    shown (Ok which) leads = last_truly leads.0
+    shown (Err (Closed call)) leads = last_truly leads.0
+    shown (Err Link) leads = last_truly leads.0
+    shown (Err (Peer at what)) leads = last_truly leads.0
+    shown (Err (Refused refusal)) leads = last_truly leads.0
+    shown (Err (Store call)) leads = shown_truly leads.0 (leads.1 ∷ []) leads.2 leads.3
+    shown (Err Write) leads = last_truly leads.0
+
     pub in_world : (start now : Port) (result : Result More SyncFault) → SyncsBy (client_party k prefix first) replies a b start now result
         → SyncsIn k prefix side w replies a b result
     in_world start now result syncs = record {
@@ -139,5 +171,13 @@ module _ (k : Mechanism) (grounds : Grounds k) (prefix : List ℕ) (side : Side)
             undamaged = r.undamaged;
             outside = r.outside;
           }) syncs.passed;
-      arrived = sync_arrives k side prefix w replies is_in.lawful fair;
+      arrived = record {
+        shown = shown result (leads start now result syncs.ends);
+        stored =
+            widen a.disk b.disk (IsReached (client_party k prefix first) first replies a.disk) (TellTruly k w side)
+            (λ c r. let at = kept_behind first w is_kept r.front r.back replies r.split fair in
+            told_truly r.front r.back r.split c
+            (record_stands client_cell k grounds (course_in k prefix side w r.front).state side
+            (course_of (client_party k prefix first) first r.front).state c at.lawful at.keeps r.holds)) syncs.passed;
+      };
     }

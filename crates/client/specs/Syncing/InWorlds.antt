@@ -1,18 +1,15 @@
 -- A sync in a world that the client stands for.
-use Rattle.std.specs.Prelude.{Err, List, Result, [], true, ⊤, ◌++◌, ◌∷◌, ◌≡◌, ◌≢◌, ◌⊎◌, ℕ}
-use Rattle.dr_base.specs.Position.{peer_of}
+use Rattle.std.specs.Prelude.{Err, List, Result, [], ⊤, ◌++◌, ◌∷◌, ◌≡◌, ◌≢◌, ◌⊎◌, ℕ}
 use Rattle.dr_base.specs.declared.position.Position.{Position}
 use Rattle.dr_base.specs.declared.position.Side.{Side}
 use Rattle.dr_disk.specs.Spans.{Span}
 use Rattle.dr_disk.specs.State.{Always, DiskState}
-use Rattle.dr_model.specs.Conversations.Views.{has_opened}
 use Rattle.dr_model.specs.Machines.Acts.{taking}
 use Rattle.dr_model.specs.Machines.WorldActs.{act_in}
 use Rattle.dr_model.specs.Machines.WorldSides.{kept_in}
-use Rattle.dr_model.specs.Machines.Worlds.{World, view_of}
+use Rattle.dr_model.specs.Machines.Worlds.{World}
 use Rattle.dr_model.specs.Theorems.Fairness.{IsUnforged}
 use Rattle.dr_model.specs.Theorems.LawfulWorlds.{IsLawfulWorld}
-use Rattle.dr_model.specs.Theorems.Receipts.{EndsWaiting}
 use Rattle.kem_laws.specs.Mechanism.{Mechanism}
 use Rattle.relay_wire.specs.Replies.{Replied, item}
 use Rattle.session_model.specs.Clients.{Client}
@@ -25,6 +22,7 @@ use Rattle.sync_model.specs.Simulation.{AreFairFrom, IsSameCourse}
 use Rattle.sync_model.specs.declared.more.More.{More}
 use Rattle.client.specs.Clients.{client_area}
 use Rattle.client.specs.InWorlds.{IsIn, StandsFor}
+use Rattle.client.specs.Receipts.{HaveArrived, TellTruly}
 use Rattle.client.specs.Spent.{IsErasedOn, IsUsed}
 use Rattle.client.specs.declared.syncing.faults.SyncFault.{SyncFault}
 use Rattle.client.specs.declared.syncing.faults.SyncFault.TheVariants.{Store}
@@ -65,11 +63,11 @@ LeadsTo k prefix side w replies b (Err (Store call)) =
 LeadsTo k prefix side w replies b _ =
     IsIn k (course_in k prefix side w replies).state side b.client × Always (StandsFor k (course_in k prefix side w replies).state side) b.disk
 
--- Each own text that waits no more once a beginning of the replies was read, since a packet that they bring says so, was
--- opened by the other side.
-abbrev pub SyncArrives : Mechanism → List ℕ → Side → World → List Replied → Type 0
-SyncArrives k prefix side w replies = (front back : List Replied) (p : Position) → replies ≡ front ++ back
-    → EndsWaiting w (course_in k prefix side w front).state side p → has_opened (view_of w (peer_of side)) p ≡ true
+-- Each own text that waited, and doesn't any more for the client, was opened by the other side. So
+-- it is of what each crash leaves meanwhile, and then.
+pub record SyncArrives (k : Mechanism) (side : Side) (w : World) (a b : Moment) : Type 0 where
+  pub shown : HaveArrived w side a.client.kept b.client.kept
+  pub stored : Span a.disk b.disk (TellTruly k w side)
 
 -- The course is the client's: the same is asked, printed and waited for. Each crash meanwhile leaves a world of the course.
 -- What its packets say has arrived was opened.
@@ -78,7 +76,7 @@ pub record SyncsIn (k : Mechanism) (prefix : List ℕ) (side : Side) (w : World)
   pub same : IsSameCourse (IsKeptIn k side) (course_of (client_party k prefix a.client.kept) a.client.kept replies) (course_in k prefix side w replies)
   pub leads : LeadsTo k prefix side w replies b result
   pub passed : Span a.disk b.disk (IsReachedIn k prefix side w replies a.disk)
-  pub arrived : SyncArrives k prefix side w replies
+  pub arrived : SyncArrives k side w a b
 
 -- ---- once a sync has ended
 

@@ -1,7 +1,7 @@
 -- What a sync finds and leaves, but for the link.
-use Rattle.std.specs.Prelude.{Bool, Err, List, None, Ok, Result, Some, false, true, ℕ, ◌≡◌}
+use Rattle.std.specs.Prelude.{Bool, Err, List, None, Ok, Result, Some, false, true, ℕ, ◌≡◌, ◌⊎◌}
 use Rattle.dr_base.specs.Causes.{Rose}
-use Rattle.dr_disk.specs.Spans.{IsQuiet}
+use Rattle.dr_disk.specs.Spans.{HavePassed, IsQuiet}
 use Rattle.dr_disk.specs.State.{DiskState, all_pass}
 use Rattle.dr_disk.specs.declared.call.Call.{Call}
 use Rattle.dr_ports.specs.Ports.{appended}
@@ -11,7 +11,7 @@ use Rattle.dr_model.specs.Machines.Steps.{Step}
 use Rattle.session_model.specs.Clients.{Client}
 use Rattle.session_model.specs.declared.answer.Answer.{Answer}
 use Rattle.client.specs.Clients.{ClientNow, IsReady}
-use Rattle.client.specs.Outcomes.{IsReplacing}
+use Rattle.client.specs.Outcomes.{IsReplacing, replacing_calls}
 use Rattle.client.specs.declared.syncing.faults.SyncFault.{SyncFault}
 use Rattle.client.specs.declared.syncing.faults.SyncFault.TheVariants.{Refused, Write}
 use Rattle.client.specs.declared.syncing.faults.SyncRefusal.TheVariants.{InboxFull}
@@ -25,13 +25,20 @@ pub record Moment : Type 1 where
 abbrev pub moment : ClientNow → DiskState → SinkState → Moment
 moment client disk sink = record { client = client; disk = disk; sink = sink }
 
+-- just the calls on the disk that replace the one record by the other; or none, where nothing changes
+abbrev pub IsCounted : Client → Client → DiskState → DiskState → Type 0
+IsCounted before after start now =
+    ((after ≡ before) × HavePassed 0 start now) ⊎ HavePassed (replacing_calls before after) start now
+
 -- From one moment to another the client came to keep this, and its disk holds that at rest; meanwhile each crash left the
--- record of before or this one. No call on the disk failed, and where all pass, all pass from then on.
+-- record of before or this one. No call on the disk was made but those that it takes, and none failed; where all pass, all pass
+-- from then on.
 pub record HasMovedOn (next : Client) (old new : ClientNow) (start now : DiskState) : Type 0 where
   pub keeps : new.kept ≡ next
   pub is_open : new.closed ≡ None
   pub ready : IsReady new.kept new.store now
   pub during : IsReplacing old.kept next start now
+  pub counted : IsCounted old.kept next start now
   pub quiet : IsQuiet start now
   pub fate : start.fate ≡ all_pass → now.fate ≡ all_pass
 

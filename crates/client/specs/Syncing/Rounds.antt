@@ -1,6 +1,7 @@
 -- One round of a sync: a request, and what is made of its reply.
 use Rattle.std.specs.Prelude.{Err, List, None, Ok, Option, Result, Some, [], ◌≡◌, ℕ}
 use Rattle.dr_ports.specs.Wires.{Port}
+use Rattle.dr_disk.specs.Spans.{HavePassed}
 use Rattle.dr_disk.specs.declared.call.Call.{Call}
 use Rattle.relay_pipe.specs.Asking.{IsBroken, IsFaulty, IsReplied, fault_at}
 use Rattle.relay_wire.specs.Framed.{request_frame}
@@ -76,9 +77,9 @@ pub data Hears (asked : Asked) (start now : Port) (Makes : Replied → RoundEnd 
   was_unheard : (at : ℕ) (kind : PeerKind) → IsFaulty (request_frame asked) start now (fault_at at kind) → Still
       → Hears asked start now Makes Still (stops (Peer at kind))
 
--- nothing was done, nor written
+-- nothing was done, nor written, and no call on the disk was made
 abbrev pub IsUnmoved : Moment → Moment → Type 0
-IsUnmoved a b = Moved a.client.kept a b × Wrote [] a b
+IsUnmoved a b = Moved a.client.kept a b × Wrote [] a b × HavePassed 0 a.disk b.disk
 
 -- a round: the request, and what the party makes of its reply
 abbrev pub IsRound : Party Client → Wait → Asked → Moment → Moment → Port → Port → RoundEnd → Type 0

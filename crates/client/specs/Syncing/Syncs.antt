@@ -20,7 +20,7 @@ use Rattle.session_record.specs.Record.{record_text}
 use Rattle.slot_store.specs.Records.{stored_record}
 use Rattle.sync_model.specs.Carried.{replied_bytes, request_bytes}
 use Rattle.sync_model.specs.Courses.{all_lines, course_of, made_requests}
-use Rattle.sync_model.specs.Moves.{Ending, asked_in, ended, over, waits_by}
+use Rattle.sync_model.specs.Moves.{Ending, asked_in, ended, over}
 use Rattle.sync_model.specs.Parties.{Party}
 use Rattle.sync_model.specs.declared.more.More.{More}
 use Rattle.client.specs.Clients.{client_area}
@@ -28,7 +28,7 @@ use Rattle.client.specs.declared.syncing.faults.SyncFault.{SyncFault}
 use Rattle.client.specs.declared.syncing.faults.SyncFault.TheVariants.{Closed, Link, Peer, Refused, Store, Write}
 use Rattle.client.specs.Syncing.Moments.{Moment, Wrote, WroteBeginning}
 use Rattle.client.specs.Syncing.Rounds.{sync_fault_of}
-use Rattle.client.specs.Syncing.SoFar.{Passed, SoFar, Stands, Talked}
+use Rattle.client.specs.Syncing.SoFar.{Passed, Stands, Talked}
 
 -- ---- on the link, where the last request has no reply
 
@@ -116,13 +116,3 @@ pub record SyncsBy (p : Party Client) (replies : List Replied) (a b : Moment) (s
 pub record Syncs (p : Party Client) (a b : Moment) (start now : Port) (result : Result More SyncFault) : Type 0 where
   pub replies : List Replied
   pub syncs : SyncsBy p replies a b start now result
-
--- ---- its two parts
-
-abbrev pub Collects : Party Client → Moment → Moment → Port → Port → Result More SyncFault → Type 0
-Collects p a b start now (Ok more) = SoFar p a b start now (waits_by (p.outbox b.client.kept) more)
-Collects p a b start now (Err fault) = Syncs p a b start now (Err fault)
-
-abbrev pub Posts : Party Client → More → Moment → Moment → Port → Port → Result Unit SyncFault → Type 0
-Posts p which a b start now (Ok u) = SoFar p a b start now (over (ended which))
-Posts p which a b start now (Err fault) = Syncs p a b start now (Err fault)

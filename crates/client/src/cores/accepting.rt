@@ -39,7 +39,9 @@ impl<K: Kem> Core<K> {
         requires { IsReceivedOf K.mechanism self.old draft }
         ensures { self.new ≡ received_client self.old draft.entry }
     {
-        self.inbox.push(draft.position(), draft.text()).unwrap();
+        self.inbox
+            .push(draft.position(), draft.kind(), draft.text())
+            .unwrap();
         draft.accept(&mut self.session);
     }
 

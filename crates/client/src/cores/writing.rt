@@ -33,6 +33,7 @@ impl<K: Kem> Core<K> {
                 part: received.part(&self.session),
                 change: Change::Received {
                     position: received.position(),
+                    kind: received.kind(),
                     text: received.text(),
                 },
             },

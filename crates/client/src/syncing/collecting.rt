@@ -14,7 +14,7 @@ ghost use Rattle.client.specs.Syncing.Moments.{IsAnswerWritten, moment};
 ghost use Rattle.client.specs.Syncing.Parties.{is_inbox_full, is_no_room, party_of, waiting};
 ghost use Rattle.client.specs.Syncing.Rounds.{Hears, Idles, IsRound, MovesTo, fetched_as, round_turn};
 ghost use Rattle.client.specs.Syncing.Lines.{answer_line};
-ghost use Rattle.client.specs.Syncing.Syncs.{Collects};
+ghost use Rattle.client.specs.Syncing.InOrder.{Collects, spot};
 
 use super::faults::{SyncFault, SyncRefusal, WRONG};
 use super::lines::write_answer;
@@ -181,10 +181,10 @@ impl<K: Kem> Client<K> {
         names: &Names,
     ) -> Result<More, SyncFault>
         requires { IsOpenOn self.old (D.state disk.old) }
-        ensures collects { Collects (party_of K.mechanism prefix.now names.now.own names.now.peers)
-            (moment self.old (D.state disk.old) (O.at out.old))
-            (moment self.new (D.state disk.new) (O.at out.new))
-            (L.port link.old) (L.port link.new) result }
+        ensures collects { Collects D.state L.port O.at
+            (party_of K.mechanism prefix.now names.now.own names.now.peers)
+            (spot self.old disk.old link.old out.old) (spot self.new disk.new link.new out.new)
+            result }
         ensures later { (O.at out.old).faults ≤ (O.at out.new).faults }
         ensures link { LeavesLink L.port L.behind link.old link.new }
     {

@@ -22,19 +22,19 @@ pub enum SyncRefusal {
 #[derive(Clone, Copy, Debug, PartialEq, Eq, Error)]
 pub enum SyncFault {
     /// A call on the disk failed before, of this kind: the client has to be opened again.
-    #[error("the client is closed")]
+    #[error("the client is closed, since a call on the disk failed before: {call:?}")]
     Closed { call: Call },
     /// A call on the link failed.
     #[error("a call on the link failed")]
     Link,
     /// The relay sent bytes that are no reply to the request, at this place of the reply's frame.
-    #[error("the relay sent no reply")]
+    #[error("the relay sent no reply: {kind:?} at the byte {at}")]
     Peer { at: usize, kind: PeerKind },
     /// A box has no room, or there is none.
-    #[error("the sync is refused")]
+    #[error("the sync is refused: {0}")]
     Refused(SyncRefusal),
     /// A call on the disk failed, of this kind: the client is closed.
-    #[error("a call on the disk failed")]
+    #[error("a call on the disk failed: {call:?}")]
     Store { call: Call },
     /// A line could not be written.
     #[error("a line could not be written")]

@@ -7,11 +7,10 @@ ghost use Rattle.relay_wire.specs.Requests.{posts};
 ghost use Rattle.sync_model.specs.Moves.{move, posting, waits_by};
 ghost use Rattle.sync_model.specs.declared.more.More.{More};
 ghost use Rattle.client.specs.Clients.{ClientNow, IsOpenOn};
+ghost use Rattle.client.specs.Syncing.InOrder.{InOrder, Posts, spot};
 ghost use Rattle.client.specs.Syncing.Moments.{moment};
 ghost use Rattle.client.specs.Syncing.Parties.{party_of, waiting};
 ghost use Rattle.client.specs.Syncing.Rounds.{IsRound, MovesTo, round_turn};
-ghost use Rattle.client.specs.Syncing.SoFar.{SoFar};
-ghost use Rattle.client.specs.Syncing.Syncs.{Posts};
 
 use super::faults::{SyncFault, SyncRefusal, WRONG};
 use super::lines::write_stored;
@@ -107,14 +106,13 @@ impl<K: Kem> Client<K> {
         requires { IsOpenOn self.old (D.state disk.old) }
         // From a sync so far, which began at an earlier moment.
         ensures posts { (more : More) (first : ClientNow) (before : D) (earlier : L) (empty : O) →
-            SoFar (party_of K.mechanism prefix.now names.now.own names.now.peers)
-            (moment first (D.state before) (O.at empty))
-            (moment self.old (D.state disk.old) (O.at out.old))
-            (L.port earlier) (L.port link.old) (waits_by (waiting self.old.kept) more)
-            → Posts (party_of K.mechanism prefix.now names.now.own names.now.peers) more
-            (moment first (D.state before) (O.at empty))
-            (moment self.new (D.state disk.new) (O.at out.new))
-            (L.port earlier) (L.port link.new) result }
+            InOrder D.state L.port O.at
+            (party_of K.mechanism prefix.now names.now.own names.now.peers)
+            (spot first before earlier empty) (spot self.old disk.old link.old out.old)
+            (waits_by (waiting self.old.kept) more)
+            → Posts D.state L.port O.at
+            (party_of K.mechanism prefix.now names.now.own names.now.peers) more
+            (spot first before earlier empty) (spot self.new disk.new link.new out.new) result }
         ensures later { (O.at out.old).faults ≤ (O.at out.new).faults }
         ensures link { LeavesLink L.port L.behind link.old link.new }
     {

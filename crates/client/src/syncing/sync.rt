@@ -11,6 +11,7 @@ ghost use Rattle.client.specs.Clients.{IsOpenOn, MayActOn};
 ghost use Rattle.client.specs.InWorlds.{IsIn};
 ghost use Rattle.client.specs.Syncing.Arrivals.{OpensArrived};
 ghost use Rattle.client.specs.Syncing.InWorlds.{AreUnforged, SyncSpends, SyncsIn};
+ghost use Rattle.client.specs.Syncing.InOrder.{SyncsInOrder, spot};
 ghost use Rattle.client.specs.Syncing.Moments.{moment};
 ghost use Rattle.client.specs.Syncing.Parties.{client_party, party_of};
 ghost use Rattle.client.specs.Syncing.Syncs.{Syncs, SyncsBy};
@@ -53,6 +54,13 @@ impl<K: Kem> Client<K> {
             (moment self.old (D.state disk.old) (O.at out.old))
             (moment self.new (D.state disk.new) (O.at out.new))
             (L.port link.old) (L.port link.new) result }
+        // Reply by reply: the disk is at rest for each step before the next request is sent, and a
+        // step makes just the calls on the disk that it takes.
+        ensures in_order { self.old.closed ≡ None
+            → SyncsInOrder D.state L.port O.at
+            (client_party K.mechanism prefix.now self.old.kept)
+            (spot self.old disk.old link.old out.old) (spot self.new disk.new link.new out.new)
+            result }
         // And in each world that the client stands for, where no packet that is taken is forged.
         ensures in_worlds { (w : World) (side : Side) (replies : List Replied)
             → IsIn K.mechanism w side self.old
@@ -124,10 +132,10 @@ impl<K: Kem> Client<K> {
         names: &Names,
     ) -> Result<More, SyncFault>
         requires { IsOpenOn self.old (D.state disk.old) }
-        ensures exact { Syncs (party_of K.mechanism prefix.now names.now.own names.now.peers)
-            (moment self.old (D.state disk.old) (O.at out.old))
-            (moment self.new (D.state disk.new) (O.at out.new))
-            (L.port link.old) (L.port link.new) result }
+        ensures exact { SyncsInOrder D.state L.port O.at
+            (party_of K.mechanism prefix.now names.now.own names.now.peers)
+            (spot self.old disk.old link.old out.old) (spot self.new disk.new link.new out.new)
+            result }
         ensures later { (O.at out.old).faults ≤ (O.at out.new).faults }
         ensures link { LeavesLink L.port L.behind link.old link.new }
     {

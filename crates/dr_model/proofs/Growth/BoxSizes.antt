@@ -1,15 +1,16 @@
 -- How many stand in the boxes of a view.
-use Rattle.std.proofs.Common.{◌≡◌, ℕ, ◌+◌, ◌-◌, ◌<◌, ◌≤◌, Bool, true, false, [], ◌∷◌, length, nat_le, refl, ◌∙◌, ap, arith, if◌then◌else◌}
+use Rattle.std.proofs.Common.{◌≡◌, ℕ, ◌+◌, ◌-◌, ◌<◌, ◌≤◌, Bool, true, false, [], ◌∷◌, length, nat_le, refl, arith, if◌then◌else◌}
 use Rattle.std.proofs.lemmas.Bool.Decides.{nat_tests}
 use Rattle.std.proofs.lemmas.List.{length-drop, length-map}
 use Rattle.kem_laws.specs.Mechanism.{Mechanism}
 use Rattle.dr_model.specs.Conversations.Conversation.{Conversation}
 use Rattle.dr_model.specs.Conversations.Posts.{posts_of}
-use Rattle.dr_model.specs.Conversations.Views.{View, entry_at, history_of, inbox_of, outbox_of}
+use Rattle.dr_model.specs.Conversations.Standing.{standing}
+use Rattle.dr_model.specs.Conversations.Views.{View, entry_at, inbox_of, outbox_of}
 
--- the texts that arrived but for those that left
-pub length-inbox_of : (c : Conversation) (v : View) → length (inbox_of c v) ≡ length v.arrived - v.done
-length-inbox_of c v = length-drop v.done (history_of c v) ∙ ap (λ n. n - v.done) (length-map v.arrived (entry_at c))
+-- one text for each position that stands
+pub length-inbox_of : (c : Conversation) (v : View) → length (inbox_of c v) ≡ length (standing v.arrived v.done)
+length-inbox_of c v = length-map (standing v.arrived v.done) (entry_at c)
 
 -- the packets that were made but for those that left
 pub length-outbox_of : (k : Mechanism) (c : Conversation) (v : View)

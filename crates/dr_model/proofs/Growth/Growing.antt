@@ -5,7 +5,7 @@ use Rattle.std.proofs.lemmas.Bool.Decides.{nat_tests}
 use Rattle.std.proofs.lemmas.List.Elements.{All-nil, All-cons, filter-append}
 use Rattle.std.proofs.lemmas.Bool.{and_from, le-leb}
 use Rattle.bodies.specs.Bodies.{Body, text_body}
-use Rattle.boxes.specs.Entries.{entry_under}
+use Rattle.boxes.specs.Entries.{entry_with}
 use Rattle.dr_base.specs.Position.{is_own}
 use Rattle.dr_base.specs.declared.position.Position.{Position}
 use Rattle.dr_base.specs.declared.position.Side.{Side}
@@ -49,7 +49,7 @@ body_at-grown c seeds epoch body p said =
 pub entry_at-grown : (c : Conversation) (seeds : List (List ℕ)) (epoch : ℕ) (body : Body) (p : Position)
     → is_said c p ≡ true
     → entry_at (grown c seeds epoch body) p ≡ entry_at c p
-entry_at-grown c seeds epoch body p said = ap (λ (b : Body). entry_under p b.content) (body_at-grown c seeds epoch body p said)
+entry_at-grown c seeds epoch body p said = ap (λ (b : Body). entry_with p b.kind b.content) (body_at-grown c seeds epoch body p said)
 
 -- what is new
 pub body_at-new : (c : Conversation) (seeds : List (List ℕ)) (epoch : ℕ) (body : Body)

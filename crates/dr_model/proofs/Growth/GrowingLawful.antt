@@ -124,7 +124,7 @@ view-grown k c seeds epoch body side v awaiting same late begun lawful waiting n
     ap length (missing_of-waiting (grown c seeds epoch body) v awaiting ∙ missing_of-grown c seeds epoch body v near),
     lawful.near,
   );
-  done_fits = lawful.done_fits;
+  done = lawful.done;
   dropped_fits = omega (arith, lawful.dropped_fits, posts-more k c seeds epoch body side same late begun);
   few_texts = omega (arith, lawful.few_texts, length-inbox_of c v, length-inbox_of (grown c seeds epoch body) v);
   few_packets = packets-more k c seeds epoch body side v same late begun lawful room;
@@ -164,7 +164,7 @@ view-turned k c seeds body side v same begun lawful waiting new peers room late 
   some = λ epoch one most others. lawful.some epoch one
       (before_turn side v.epoch epoch (own_turned side v lawful.side_is peers) most others) others;
   near = omega (arith, ap length (missing_of-turned c seeds body v peers), lawful.near);
-  done_fits = lawful.done_fits;
+  done = lawful.done;
   dropped_fits = omega (arith, lawful.dropped_fits, posts-more k c seeds (v.epoch + 1) body side same (omega arith) begun);
   few_texts = omega (
     arith,

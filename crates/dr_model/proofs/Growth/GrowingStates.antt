@@ -1,6 +1,6 @@
 -- What a side keeps while the other side says a text: the same.
 use Rattle.std.proofs.Common.{◌≡◌, ℕ, ◌+◌, ◌-◌, ◌≤◌, true, false, Bool, nat_le, List, [], ◌∷◌, ◌++◌, length, drop, Option, refl, ◌∙◌, ap, ap₂, append-nil, if◌then◌else◌, arith}
-use Rattle.std.specs.Prelude.{All}
+use Rattle.std.specs.Prelude.{All, not}
 use Rattle.std.proofs.lemmas.Bool.{cond-false}
 use Rattle.std.proofs.lemmas.Bool.Decides.{nat_tests}
 use Rattle.bodies.specs.Bodies.{Body}
@@ -23,10 +23,12 @@ use Rattle.dr_model.specs.Conversations.Lawful.{HasArrived}
 use Rattle.dr_model.specs.Conversations.Posts.{post_at, posts_of, turn_of_epoch}
 use Rattle.dr_model.specs.Conversations.ViewStates.{client_at, view_phase, previous_in, state_of}
 use Rattle.dr_model.specs.Conversations.Formats.{side_format}
-use Rattle.dr_model.specs.Conversations.Views.{View, inbox_of, outbox_of}
-use Rattle.dr_model.proofs.Growth.Growing.{grown, count-grown, previous-grown}
-use Rattle.dr_model.proofs.Growth.GrowingViews.{kept-grown, receiving-grown, history-grown}
-use Rattle.dr_model.proofs.Growth.TurnGrowth.{SameTurns, posts_of-grown}
+use Rattle.dr_model.specs.Conversations.Standing.{is_in, standing}
+use Rattle.dr_model.specs.Conversations.Views.{View, entry_at, inbox_of, outbox_of}
+use Rattle.std.proofs.lemmas.List.Elements.{All-filter, All-weaker}
+use Rattle.dr_model.proofs.Growth.Growing.{grown, count-grown, entry_at-grown, previous-grown}
+use Rattle.dr_model.proofs.Growth.GrowingViews.{kept-grown, receiving-grown}
+use Rattle.dr_model.proofs.Growth.TurnGrowth.{SameTurns, map-same, posts_of-grown}
 
 -- a state by its parts
 abbrev pub state_with : Side → Format → List ℕ → ℕ → List ℕ → Phase → ℕ → Option Reception → List Kept
@@ -120,7 +122,11 @@ state-grown k c seeds epoch body v same near within peers =
 pub inbox-grown : (c : Conversation) (seeds : List (List ℕ)) (epoch : ℕ) (body : Body) (v : View)
     → All (HasArrived c v) v.arrived
     → inbox_of (grown c seeds epoch body) v ≡ inbox_of c v
-inbox-grown c seeds epoch body v arrivals = ap (drop v.done) (history-grown c seeds epoch body v arrivals)
+inbox-grown c seeds epoch body v arrivals =
+    map-same (entry_at (grown c seeds epoch body)) (entry_at c) (standing v.arrived v.done)
+    (All-weaker (HasArrived c v) (λ p. entry_at (grown c seeds epoch body) p ≡ entry_at c p)
+    (λ p has. entry_at-grown c seeds epoch body p has.said) (standing v.arrived v.done)
+    (All-filter (λ p. not (is_in v.done p)) (HasArrived c v) v.arrived arrivals))
 
 -- the packets of the other side are none of its own
 pub posts_of-peer : (k : Mechanism) (c : Conversation) (seeds : List (List ℕ)) (epoch : ℕ) (body : Body) (side : Side)

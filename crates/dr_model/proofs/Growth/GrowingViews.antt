@@ -13,11 +13,10 @@ use Rattle.session_model.specs.States.{Reception, receiving_epoch}
 use Rattle.session_model.specs.Turns.{Turn}
 use Rattle.dr_model.specs.Conversations.Conversation.{Conversation, count_of}
 use Rattle.dr_model.specs.Conversations.Indices.{missing_to, reach}
-use Rattle.dr_model.specs.Conversations.Lawful.{HasArrived}
 use Rattle.dr_model.specs.Conversations.Posts.{key_of}
 use Rattle.dr_model.specs.Conversations.ViewStates.{view_reception}
-use Rattle.dr_model.specs.Conversations.Views.{View, indices_in, reach_in, missing_in, missing_below, missing_of, entry_at, history_of}
-use Rattle.dr_model.proofs.Growth.Growing.{grown, count-grown, entry_at-grown}
+use Rattle.dr_model.specs.Conversations.Views.{View, indices_in, reach_in, missing_in, missing_below, missing_of}
+use Rattle.dr_model.proofs.Growth.Growing.{grown, count-grown}
 use Rattle.dr_model.proofs.Growth.TurnGrowth.{SameTurns, key_of-grown, map-same}
 
 -- ---- what is missing
@@ -117,13 +116,3 @@ receiving-grown k c seeds epoch body v same near within =
     some_same (view_reception k (grown c seeds epoch body) v) (view_reception k c v) (receiving_epoch v.side v.epoch)
     (λ t is. reception-grown k c seeds epoch body v t same near
     (let latest = latest-reached v.side v.epoch t is in omega arith))
-
--- ---- the history
-
-pub history-grown : (c : Conversation) (seeds : List (List ℕ)) (epoch : ℕ) (body : Body) (v : View)
-    → All (HasArrived c v) v.arrived
-    → history_of (grown c seeds epoch body) v ≡ history_of c v
-history-grown c seeds epoch body v arrivals =
-    map-same (entry_at (grown c seeds epoch body)) (entry_at c) v.arrived
-    (All-weaker (HasArrived c v) (λ p. entry_at (grown c seeds epoch body) p ≡ entry_at c p)
-    (λ p has. entry_at-grown c seeds epoch body p has.said) v.arrived arrivals)

@@ -7,7 +7,7 @@ use Rattle.dr_model.specs.Conversations.Conversation.{Conversation}
 use Rattle.dr_model.specs.Conversations.Posts.{key_of}
 use Rattle.dr_model.specs.Conversations.Views.{View, missing_below, missing_in, missing_of}
 
-pub missing_below-boxes : (c : Conversation) (v : View) (done dropped : ℕ) (awaiting : List Position) (t : ℕ)
+pub missing_below-boxes : (c : Conversation) (v : View) (done : List Position) (dropped : ℕ) (awaiting : List Position) (t : ℕ)
     → missing_below c (record v { done = done; dropped = dropped; awaiting = awaiting }) t ≡ missing_below c v t
 unfolding missing_below
 missing_below-boxes c v done dropped awaiting zero = refl

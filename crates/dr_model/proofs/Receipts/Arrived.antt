@@ -1,9 +1,7 @@
 -- A text whose waiting a take ends was opened by the other side.
-use Rattle.std.proofs.Common.{◌≡◌, ℕ, ◌&&◌, ◌||◌, Bool, true, false, not, nat_le, nat_lt, List, [], ◌∷◌, length, Option, Some, None, Ok, Err, refl, sym, ◌∙◌, ap, subst, if◌then◌else◌, inl, inr}
+use Rattle.std.proofs.Common.{◌≡◌, ℕ, ◌&&◌, Bool, true, false, not, nat_le, nat_lt, List, length, Option, Some, None, Ok, Err, refl, sym, ◌∙◌, ap, if◌then◌else◌}
 use Rattle.std.specs.List.{list_any}
-use Rattle.std.specs.Prelude.{All, IfSome}
-use Rattle.std.proofs.lemmas.Bool.{cases_Bool}
-use Rattle.std.proofs.lemmas.List.Elements.{All-head, All-tail}
+use Rattle.std.specs.Prelude.{IfSome}
 use Rattle.std.proofs.lemmas.Map.Views.{any-filter_same}
 use Rattle.bodies.specs.Receipts.{Receipt, is_covered}
 use Rattle.dr_base.specs.Position.{is_at, is_own, peer_of}
@@ -25,25 +23,13 @@ use Rattle.dr_model.specs.Machines.Steps.{Step, settled, step}
 use Rattle.dr_model.specs.Machines.Worlds.{World, inbox_in, made_at, step_of, taking_at, taking_given, taking_in, taking_made, view_of, with_view}
 use Rattle.dr_model.specs.Theorems.LawfulWorlds.{IsLawfulWorld}
 use Rattle.dr_model.specs.Theorems.Receipts.{EndsWaiting}
+use Rattle.dr_model.proofs.Growth.Apart.{any_all}
 use Rattle.dr_model.proofs.Taking.MadePositions.{made_at-is}
 use Rattle.dr_model.proofs.Worlds.CallKinds.{of_source}
 use Rattle.dr_model.proofs.Worlds.CutSteps.{cut_off}
 use Rattle.dr_model.proofs.Worlds.WorldViews.{view_lawful}
 
 -- ---- what stands in a list
-
--- what holds of all holds of a position that stands there
-any_all : (P : Position → Type 0) (p : Position) (ps : List Position) → All P ps → list_any (is_at p) ps ≡ true → P p
-any_all P p [] all there = cc
-any_all P p (q ∷ ps) all there =
-    elim (cases_Bool (is_at p q)) as (λ _. P p) [
-      | inl here ↦ subst P (is_at-same p q here) (All-head P q ps all)
-      | inr other ↦ any_all P p ps (All-tail P q ps all) (behind (is_at p q) (list_any (is_at p) ps) other there)
-    ]
-  where
-    behind : (a b : Bool) → a ≡ false → (a || b) ≡ true → b ≡ true
-    behind true b is h = cc
-    behind false b is h = h
 
 -- what doesn't wait any more is covered
 over_by : (covered waited over : Bool) → over ≡ (not covered && waited) → waited ≡ true → over ≡ false → covered ≡ true

@@ -5,7 +5,7 @@ use Rattle.bodies.specs.Bodies.{Body}
 use Rattle.bodies.specs.Receipts.{Receipt, receipt_up_to}
 use Rattle.bodies.specs.declared.format.Format.{Format}
 use Rattle.bodies.specs.declared.format.Format.TheVariants.{Padded, Plain, Receipts}
-use Rattle.bodies.specs.declared.limits.TheConstants.{TEXT_KIND}
+use Rattle.boxes.specs.declared.kinds.TheConstants.{TEXT_KIND}
 use Rattle.dr_base.specs.Position.{position_at}
 use Rattle.dr_base.specs.declared.key.Kept.{Kept}
 use Rattle.dr_base.specs.declared.position.Position.{Position}

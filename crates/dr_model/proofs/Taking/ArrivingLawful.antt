@@ -26,7 +26,9 @@ use Rattle.dr_model.specs.Conversations.Views.{View, after_opening, has_opened, 
 use Rattle.dr_model.specs.Machines.Steps.{Step, settled, step}
 use Rattle.dr_model.specs.Machines.Worlds.{World, inbox_in, taking_in, view_of, with_view}
 use Rattle.dr_model.specs.Theorems.LawfulWorlds.{IsLawfulWorld}
+use Rattle.dr_model.specs.Conversations.Standing.{standing}
 use Rattle.dr_model.proofs.Growth.BoxSizes.{length-inbox_of}
+use Rattle.dr_model.proofs.Growth.Standing.{last_stands, still_done}
 use Rattle.dr_model.proofs.Missing.EpochIndices.{indices_in-other, indices_in-same}
 use Rattle.dr_model.proofs.Taking.PacketFields.{IsPlace, is_place}
 use Rattle.dr_model.proofs.Receipts.Truth.{true_opening}
@@ -110,13 +112,14 @@ lawful_after k c side v p lawful view said takes =
       some = λ epoch one most peers. some_after k c side v p epoch view
           (omega (arith, place.began, view.near_end)) one most peers;
       near = takes.near;
-      done_fits = omega (arith, length_push v.arrived p, view.done_fits);
+      done = still_done v.arrived v.done p view.done;
       dropped_fits = view.dropped_fits;
       few_texts = omega (
         arith,
         length-inbox_of c v,
         length-inbox_of c (after_opening c v p),
-        length_push v.arrived p,
+        ap length (last_stands v.arrived v.done p view.done takes.unopened),
+        length_push (standing v.arrived v.done) p,
         takes.room,
       );
       few_packets = view.few_packets;

@@ -1,7 +1,8 @@
 -- What a side makes of the packet of a text that was said, and what it keeps then.
-use Rattle.std.proofs.Common.{◌≡◌, ℕ, Bool, true, false, nat_le, nat_lt, List, [], ◌∷◌, ◌++◌, length, drop, Option, Result, Ok, Err, refl, sym, ap, ap₂, ◌∙◌, arith, if◌then◌else◌}
+use Rattle.std.proofs.Common.{◌≡◌, ℕ, Bool, true, false, nat_le, nat_lt, List, [], ◌∷◌, ◌++◌, length, Option, Result, Ok, Err, refl, sym, ap, ◌∙◌, if◌then◌else◌}
 use Rattle.std.specs.Prelude.{option_map}
-use Rattle.std.proofs.lemmas.List.{drop-append-le, length-map, map_push}
+use Rattle.std.specs.Prelude.{map}
+use Rattle.std.proofs.lemmas.List.{map_push}
 use Rattle.dr_base.specs.declared.limits.TheConstants.{KEPT_LIMIT, INBOX_LIMIT}
 use Rattle.boxes.specs.Entries.{Entry}
 use Rattle.dr_base.specs.Position.{is_own}
@@ -14,17 +15,19 @@ use Rattle.session_model.specs.Taking.{ReceiveDraft}
 use Rattle.session_model.specs.declared.answer.Answer.TheVariants.{Opened}
 use Rattle.session_model.specs.declared.answer.Refusal.{Refusal}
 use Rattle.session_model.specs.declared.answer.Refusal.TheVariants.{OwnPacket, Spent, SkipLimit, InboxFull}
-use Rattle.dr_model.specs.Conversations.Conversation.{Conversation, is_said, text_at}
+use Rattle.dr_model.specs.Conversations.Conversation.{Conversation, is_said, kind_at, text_at}
 use Rattle.dr_model.specs.Conversations.Lawful.{IsLawfulConversation, IsLawfulView}
 use Rattle.dr_model.specs.Conversations.Posts.{post_at}
 use Rattle.dr_model.specs.Conversations.ViewStates.{client_at, state_of}
-use Rattle.dr_model.specs.Conversations.Views.{View, after_opening, entry_at, has_opened, history_of, inbox_of, missing_of, outbox_of}
+use Rattle.dr_model.specs.Conversations.Views.{View, after_opening, entry_at, has_opened, inbox_of, missing_of, outbox_of}
 use Rattle.dr_model.specs.Machines.Acts.{taken_by, taking}
 use Rattle.dr_model.specs.Machines.Sides.{Sides, acted_on, client_of, settled_on}
 use Rattle.dr_model.specs.Machines.Steps.{Step, settled, step}
 use Rattle.dr_model.specs.Machines.WorldSides.{sides_of}
 use Rattle.dr_model.specs.Machines.Worlds.{World, taking_in, view_of, with_view}
 use Rattle.dr_model.specs.Theorems.LawfulWorlds.{IsLawfulWorld}
+use Rattle.dr_model.specs.Conversations.Standing.{standing}
+use Rattle.dr_model.proofs.Growth.Standing.{last_stands}
 use Rattle.dr_model.proofs.Taking.PacketAnswers.{received}
 use Rattle.dr_model.proofs.Taking.PacketFields.{is_place, read-post}
 use Rattle.dr_model.proofs.Worlds.SeenWorlds.{seen_world}
@@ -39,11 +42,9 @@ taken_on k s side given = acted_on k s side (option_map taking given)
 
 -- one text more in the inbox
 inbox_after : (k : Mechanism) (c : Conversation) (side : Side) (v : View) (p : Position) → IsLawfulView k c side v
-    → inbox_of c v ++ entry_at c p ∷ [] ≡ inbox_of c (after_opening c v p)
-inbox_after k c side v p view =
-    sym (ap (drop v.done) (map_push (entry_at c) v.arrived p)
-    ∙ drop-append-le v.done (history_of c v) (entry_at c p ∷ [])
-    (omega (arith, view.done_fits, length-map v.arrived (entry_at c))))
+    → has_opened v p ≡ false → inbox_of c v ++ entry_at c p ∷ [] ≡ inbox_of c (after_opening c v p)
+inbox_after k c side v p view new =
+    sym (ap (map (entry_at c)) (last_stands v.arrived v.done p view.done new) ∙ map_push (entry_at c) (standing v.arrived v.done) p)
 
 -- a client that takes a draft, unless its inbox is full
 abbrev unless_full : Client → ReceiveDraft → Result TakenPacket Refusal
@@ -70,10 +71,10 @@ taken_at k c v p =
       };
     }
 
-taken_after : (k : Mechanism) (c : Conversation) (side : Side) (v : View) (p : Position) → IsLawfulView k c side v
+taken_after : (k : Mechanism) (c : Conversation) (side : Side) (v : View) (p : Position) → IsLawfulView k c side v → has_opened v p ≡ false
     → taken_at k c v p ≡ record { position = p; next = client_at k c (after_opening c v p) }
-taken_after k c side v p view =
-    ap (λ (inbox : List Entry). record { position = p; next = record { state = state_of k c (after_opening c v p); inbox = inbox; outbox = outbox_of k c v } }) (inbox_after k c side v p view)
+taken_after k c side v p view new =
+    ap (λ (inbox : List Entry). record { position = p; next = record { state = state_of k c (after_opening c v p); inbox = inbox; outbox = outbox_of k c v } }) (inbox_after k c side v p view new)
 
 -- what the side answers to the packet
 answered : (k : Mechanism) (c : Conversation) (side : Side) (v : View) (p : Position) → IsLawfulMechanism k
@@ -90,12 +91,12 @@ answered k c side v p law lawful view said =
     ∙ ap (accept_receive (client_at k c v)) (received k c side v p law lawful view said)
     ∙ accept_by (client_at k c v) (is_own v.side p.epoch) (has_opened v p) (nat_lt KEPT_LIMIT missing) (OwnPacket p.epoch) (Spent p)
     (SkipLimit missing)
-    (record { position = p; text = text_at c p; next = state_of k c (after_opening c v p) })
+    (record { position = p; kind = kind_at c p; text = text_at c p; next = state_of k c (after_opening c v p) })
 
 -- the first of four refusals, or else a step that both sides see
 seen_world-by : (k : Mechanism) (w : World) (side : Side) (own old far full : Bool) (p q r t : Refusal) (taken : TakenPacket)
     (next : Step World)
-    → opened_on (sides_of k w) side (Ok taken) ≡ seen_world k next
+    → (old ≡ false → opened_on (sides_of k w) side (Ok taken) ≡ seen_world k next)
     → opened_on (sides_of k w) side (if own then Err p else (if old then Err q else (if far then Err r else (if full then Err t else Ok taken))))
     ≡ seen_world k (settled w
     (if own then Err p else (if old then Err q else (if far then Err r else (if full then Err t else Ok next)))))
@@ -103,7 +104,7 @@ seen_world-by k w side true old far full p q r t taken next h = refl
 seen_world-by k w side false true far full p q r t taken next h = refl
 seen_world-by k w side false false true full p q r t taken next h = refl
 seen_world-by k w side false false false true p q r t taken next h = refl
-seen_world-by k w side false false false false p q r t taken next h = h
+seen_world-by k w side false false false false p q r t taken next h = h refl
 
 -- a client that stands in a view
 with_client-view : (k : Mechanism) (w : World) (side : Side) (p : Position) (v : View)
@@ -124,13 +125,14 @@ arrival k w side p law lawful said =
     let missing = length (missing_of c (after_opening c v p)) in
     ap (λ client. opened_on (sides_of k w) side (take_on k client (post_at k c p).packet)) (client_of-kept k w side)
     ∙ ap (opened_on (sides_of k w) side) (answered k c side v p law lawful.conversation view said)
-    ∙ ap₂ (λ s (taken : TakenPacket). opened_on (sides_of k w) side
+    ∙ ap (λ s. opened_on (sides_of k w) side
     (if is_own s p.epoch then Err (OwnPacket p.epoch) else (if has_opened v p then Err (Spent p)
     else (if nat_lt KEPT_LIMIT missing then Err (SkipLimit missing) else
-    (if nat_le INBOX_LIMIT (length (inbox_of c v)) then Err InboxFull else Ok taken)))))
-    view.side_is (taken_after k c side v p view)
+    (if nat_le INBOX_LIMIT (length (inbox_of c v)) then Err InboxFull else Ok (taken_at k c v p))))))
+    view.side_is
     ∙ seen_world-by k w side (is_own side p.epoch) (has_opened v p) (nat_lt KEPT_LIMIT missing) (nat_le INBOX_LIMIT (length (inbox_of c v)))
     (OwnPacket p.epoch) (Spent p) (SkipLimit missing) InboxFull
-    (record { position = p; next = client_at k c (after_opening c v p) })
+    (taken_at k c v p)
     (step (Opened p) (with_view w side (after_opening c v p)))
-    (with_client-view k w side p (after_opening c v p))
+    (λ new. ap (λ (taken : TakenPacket). opened_on (sides_of k w) side (Ok taken)) (taken_after k c side v p view new)
+    ∙ with_client-view k w side p (after_opening c v p))

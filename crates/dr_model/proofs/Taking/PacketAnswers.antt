@@ -15,7 +15,7 @@ use Rattle.session_model.specs.Taking.{ReceiveDraft, draft_receive, opened_by}
 use Rattle.session_model.specs.Ways.{Way, epoch_way, known_way, way_of, within_limit}
 use Rattle.session_model.specs.declared.answer.Refusal.{Refusal}
 use Rattle.session_model.specs.declared.answer.Refusal.TheVariants.{OwnPacket, Spent, SkipLimit}
-use Rattle.dr_model.specs.Conversations.Conversation.{Conversation, is_said, text_at}
+use Rattle.dr_model.specs.Conversations.Conversation.{Conversation, is_said, kind_at, text_at}
 use Rattle.dr_model.specs.Conversations.Indices.{is_among}
 use Rattle.dr_model.specs.Conversations.Lawful.{HasArrived, IsLawfulConversation, IsLawfulView}
 use Rattle.dr_model.specs.Conversations.Posts.{post_fields, turn_of_epoch}
@@ -33,7 +33,7 @@ use Rattle.dr_model.proofs.Taking.PacketFields.{IsPlace, is_place, opened_by-key
 
 -- the packet opens, and the session stands in the next view
 abbrev opens_at : Mechanism → Conversation → View → Position → Result ReceiveDraft Refusal
-opens_at k c next p = Ok (record { position = p; text = text_at c p; next = state_of k c next })
+opens_at k c next p = Ok (record { position = p; kind = kind_at c p; text = text_at c p; next = state_of k c next })
 
 -- unless too many would be missing
 abbrev far_at : Mechanism → Conversation → View → Position → Result ReceiveDraft Refusal
@@ -54,7 +54,7 @@ opened_on : (k : Mechanism) (c : Conversation) (next : View) (p : Position) → 
 opened_on k c next p place =
     opened_by-key k c p (record { key = message_key (turn_of_epoch k c p.epoch).stream p.index; next = state_of k c next })
     place refl
-    ∙ ap (λ (s : State). Ok (record { position = p; text = text_at c p; next = s })) (state_of-obeying k c p next)
+    ∙ ap (λ (s : State). Ok (record { position = p; kind = kind_at c p; text = text_at c p; next = s })) (state_of-obeying k c p next)
 
 answer_limit : (k : Mechanism) (c : Conversation) (next : View) (p : Position) → IsPlace c p
     → opened_by (post_fields k c p) (within_limit (length (missing_of c next)) (record { key = message_key (turn_of_epoch k c p.epoch).stream p.index; next = state_of k c next }))

@@ -31,7 +31,7 @@ use Rattle.session_model.proofs.Sealed.{HasFewListed, known_version, sealed_fits
 use Rattle.session_model.specs.Awaiting.{still_waiting}
 use Rattle.session_model.specs.Ways.{Way, epoch_way, known_way, position_of, way_of}
 use Rattle.session_model.specs.declared.answer.Refusal.TheVariants.{OtherSession, OwnPacket, Ahead, BadTag}
-use Rattle.dr_model.specs.Conversations.Conversation.{Conversation, Said, is_said, count_of, previous_of, body_at, receipt_at, text_at, bodies_of}
+use Rattle.dr_model.specs.Conversations.Conversation.{Conversation, Said, is_said, count_of, previous_of, body_at, receipt_at, kind_at, text_at, bodies_of}
 use Rattle.dr_model.specs.Conversations.Lawful.{IsLawfulConversation}
 use Rattle.dr_model.specs.Conversations.Posts.{post_fields, epoch_format, post_at, turn_of_epoch, epoch_version}
 use Rattle.dr_model.proofs.Growth.Growing.{said_from, said_to}
@@ -180,6 +180,7 @@ pub opened_by-key : (k : Mechanism) (c : Conversation) (p : Position) (way : Way
     → opened_by (post_fields k c p) (Ok way)
     ≡ Ok (record {
       position = p;
+      kind = kind_at c p;
       text = text_at c p;
       next = record way.next { awaiting = still_waiting (receipt_at c p) way.next.awaiting };
     })

@@ -1,7 +1,11 @@
 -- Each event of a world on both sides: they answer as the machine does, and keep what stands after it.
 use Rattle.std.proofs.Common.{◌≡◌, ℕ, ◌+◌, Bool, true, false, nat_le, List, length, map, Option, Some, None, Ok, Err, refl, sym, ◌∙◌, ap, ap₂, if◌then◌else◌}
 use Rattle.std.specs.Prelude.{IfSome, option_map}
-use Rattle.std.proofs.lemmas.List.{drop-drop, length-map}
+use Rattle.std.proofs.lemmas.List.{drop-drop, drop-map, length-map}
+use Rattle.dr_model.specs.Conversations.Standing.{AreApart, done_first, standing}
+use Rattle.dr_model.proofs.Growth.Apart.{apart_once}
+use Rattle.dr_model.proofs.Growth.Standing.{first_leave}
+use Rattle.dr_model.proofs.Worlds.WorldViews.{view_lawful}
 use Rattle.dr_base.specs.declared.position.Position.{Position}
 use Rattle.dr_base.specs.declared.position.Side.{Side}
 use Rattle.dr_base.specs.declared.position.Side.TheVariants.{First, Second}
@@ -15,7 +19,7 @@ use Rattle.session_model.specs.declared.answer.Refusal.TheVariants.{Fewer}
 use Rattle.dr_model.specs.Conversations.Conversation.{Conversation, is_said}
 use Rattle.dr_model.specs.Conversations.Posts.{post_at, posts, posts_of, key_of}
 use Rattle.dr_model.specs.Conversations.ViewStates.{client_at, state_of}
-use Rattle.dr_model.specs.Conversations.Views.{View, after_drop, history_of, inbox_of, missing_of, outbox_of, standing_of}
+use Rattle.dr_model.specs.Conversations.Views.{View, after_drop, entry_at, inbox_of, missing_of, outbox_of, standing_of}
 use Rattle.dr_model.specs.Machines.Acts.{dropped_client, standing_with}
 use Rattle.dr_model.specs.Machines.Events.{Event, PacketSource, SideCall, cuts, does, drops, of_bytes, of_flip, of_number, of_position, says, seeds, shows_awaiting, shows_inbox, shows_state, takes}
 use Rattle.dr_model.specs.Machines.Network.{flipped_at, packet_given}
@@ -51,7 +55,7 @@ given_follows k w side None law lawful unforged = refl
 given_follows k w side (Some bytes) law lawful unforged = bytes_follow k w side bytes law lawful unforged
 
 -- the session keeps nothing of what left the boxes
-state_of-boxes : (k : Mechanism) (c : Conversation) (v : View) (done dropped : ℕ)
+state_of-boxes : (k : Mechanism) (c : Conversation) (v : View) (done : List Position) (dropped : ℕ)
     → state_of k c (record v { done = done; dropped = dropped }) ≡ state_of k c v
 state_of-boxes k c v done dropped =
     ap (λ missing. record (state_of k c v) { kept = map (key_of k c) missing })
@@ -63,12 +67,13 @@ same_standing : (k : Mechanism) (c : Conversation) (v : View) (items : Items)
 same_standing k c v Texts = refl
 same_standing k c v Packets = refl
 
-same_dropped : (k : Mechanism) (c : Conversation) (v : View) (items : Items) (n : ℕ)
+same_dropped : (k : Mechanism) (c : Conversation) (v : View) (items : Items) (n : ℕ) → AreApart v.arrived
     → dropped_client (client_at k c v) items n ≡ client_at k c (after_drop v items n)
-same_dropped k c v Texts n =
+same_dropped k c v Texts n apart =
     ap₂ (λ state inbox. let client : Client = record { state = state; inbox = inbox; outbox = outbox_of k c v } in client)
-    (sym (state_of-boxes k c v (v.done + n) v.dropped)) (drop-drop n v.done (history_of c v))
-same_dropped k c v Packets n =
+    (sym (state_of-boxes k c v (done_first v.arrived v.done n) v.dropped))
+    (drop-map (entry_at c) n (standing v.arrived v.done) ∙ sym (ap (map (entry_at c)) (first_leave v.arrived v.done n apart)))
+same_dropped k c v Packets n apart =
     ap₂ (λ state outbox. let client : Client = record { state = state; inbox = inbox_of c v; outbox = outbox } in client)
     (sym (state_of-boxes k c v v.done (v.dropped + n))) (drop-drop n v.dropped (posts_of k c v.side))
 
@@ -90,9 +95,9 @@ left_follows k w side items n standing after = by_test (nat_le n standing)
     by_test true = ap (λ (next : Sides). step (Dropped items n) next) (with_seen k w side after)
     by_test false = refl
 
-drop_follows : (k : Mechanism) (w : World) (side : Side) (items : Items) (amount : Amount)
+drop_follows : (k : Mechanism) (w : World) (side : Side) (items : Items) (amount : Amount) → IsLawfulWorld k w
     → called_on k (sides_of k w) side (drops items amount) ≡ seen_world k (called_in k w side (drops items amount))
-drop_follows k w side items amount =
+drop_follows k w side items amount lawful =
     let c = w.conversation in
     let v = view_of w side in
     let n = amount_of amount (standing_of k c v items) in
@@ -105,7 +110,7 @@ drop_follows k w side items amount =
     settled_on (sides_of k w) side (leaving items n standing (dropped_client (client_at k c v) items n)))
     (same_standing k c v items)
     ∙ ap (λ (next : Client). settled_on (sides_of k w) side (leaving items n (standing_of k c v items) next))
-    (same_dropped k c v items n)
+    (same_dropped k c v items n (apart_once v.arrived (view_lawful k w side lawful).once))
     ∙ left_follows k w side items n (standing_of k c v items) (after_drop v items n)
 
 -- each packet
@@ -129,7 +134,7 @@ called_follows : (k : Mechanism) (w : World) (side : Side) (call : SideCall) →
     → IsUnforgedCall k w side call → called_on k (sides_of k w) side call ≡ seen_world k (called_in k w side call)
 called_follows k w side (says text) law lawful unforged = says_follows k w side text law lawful
 called_follows k w side (takes source) law lawful unforged = source_follows k w side source law lawful unforged
-called_follows k w side (drops items amount) law lawful unforged = drop_follows k w side items amount
+called_follows k w side (drops items amount) law lawful unforged = drop_follows k w side items amount lawful
 
 -- what a side holds, with this many missing
 abbrev in_numbers : Mechanism → World → Side → ℕ → Step Sides

@@ -23,6 +23,8 @@ use Rattle.dr_model.specs.Conversations.ViewStates.{view_phase}
 use Rattle.dr_model.specs.Conversations.Views.{View, has_opened, indices_in, missing_of, times_opened}
 use Rattle.dr_model.specs.Machines.Worlds.{positions_of_peer}
 use Rattle.dr_model.proofs.Growth.BoxSizes.{length-inbox_of, length-outbox_of}
+use Rattle.dr_model.proofs.Growth.Apart.{apart_once}
+use Rattle.dr_model.proofs.Growth.Standing.{all_done, none_stands}
 use Rattle.dr_model.proofs.Growth.Growing.{positions-said, said-begun}
 use Rattle.dr_model.proofs.Missing.EpochIndices.{is_among-indices}
 use Rattle.dr_model.proofs.Missing.MissedPositions.{IsMissed, missing_below-missed, reach_in-most}
@@ -37,7 +39,7 @@ full_view k c side = record {
   side = side;
   epoch = length c.seeds;
   arrived = positions_of_peer c side;
-  done = length (positions_of_peer c side);
+  done = positions_of_peer c side;
   dropped = length (posts_of k c side);
   awaiting = [];
 }
@@ -190,9 +192,9 @@ full_lawful k c side lawful =
         none_left (IsMissed c v) (missing_of c v) (missing_below-missed c v (v.epoch + 1))
             (λ p missed. not_missed k c side p arrivals missed),
       );
-      done_fits = omega arith;
+      done = all_done (positions_of_peer c side) (apart_once (positions_of_peer c side) (opened_once k c side));
       dropped_fits = omega arith;
-      few_texts = omega (arith, length-inbox_of c v);
+      few_texts = omega (arith, length-inbox_of c v, ap length (none_stands (positions_of_peer c side)));
       few_packets = omega (arith, length-outbox_of k c v);
       awaiting = waiting-none side (length c.seeds) (view_phase k c v);
       awaiting_said = All-nil (λ p. is_said c p ≡ true);

@@ -12,8 +12,12 @@ use Rattle.session_model.specs.declared.answer.Refusal.{Refusal}
 use Rattle.session_model.specs.declared.answer.Refusal.TheVariants.{Fewer}
 use Rattle.dr_model.specs.Conversations.Conversation.{Conversation, is_said, receipt_at}
 use Rattle.dr_model.specs.Conversations.Lawful.{HasArrived, IsLawfulView}
+use Rattle.std.proofs.lemmas.List.{length-drop}
 use Rattle.dr_model.specs.Conversations.Posts.{posts_of}
-use Rattle.dr_model.specs.Conversations.Views.{View, after_drop, inbox_of, outbox_of, standing_of}
+use Rattle.dr_model.specs.Conversations.Standing.{AreDone, done_first, standing}
+use Rattle.dr_model.proofs.Growth.Apart.{apart_once}
+use Rattle.dr_model.proofs.Growth.Standing.{first_done, first_leave}
+use Rattle.dr_model.specs.Conversations.Views.{View, after_drop, outbox_of, standing_of}
 use Rattle.dr_model.specs.Machines.Events.{Event, cuts, does, seeds, shows_awaiting, shows_inbox, shows_state}
 use Rattle.dr_model.specs.Machines.Steps.{Step, step, settled}
 use Rattle.dr_model.specs.Machines.Worlds.{World, dropping_in, made_at, run_of, standing_in, step_of, taking_at, taking_given, taking_made, view_of, with_view}
@@ -47,9 +51,9 @@ lawful_given k w side None lawful = lawful
 lawful_given k w side (Some bytes) lawful = lawful_made k w side bytes (made_at k w bytes) lawful refl
 
 -- what left the boxes matters to the boxes alone
-lawful_boxes : (k : Mechanism) (c : Conversation) (side : Side) (v : View) (done dropped : ℕ) → IsLawfulView k c side v
-    → v.done ≤ done → v.dropped ≤ dropped
-    → done ≤ length v.arrived → dropped ≤ length (posts_of k c side)
+lawful_boxes : (k : Mechanism) (c : Conversation) (side : Side) (v : View) (done : List Position) (dropped : ℕ) → IsLawfulView k c side v
+    → length (standing v.arrived done) ≤ length (standing v.arrived v.done) → v.dropped ≤ dropped
+    → AreDone v.arrived done → dropped ≤ length (posts_of k c side)
     → IsLawfulView k c side (record v { done = done; dropped = dropped })
 lawful_boxes k c side v done dropped lawful fewer less d e =
     let after = record v { done = done; dropped = dropped } in
@@ -63,9 +67,9 @@ lawful_boxes k c side v done dropped lawful fewer less d e =
       once = lawful.once;
       some = lawful.some;
       near = omega (arith, lawful.near, ap length (missing_below-boxes c v done dropped v.awaiting (v.epoch + 1)));
-      done_fits = d;
+      done = d;
       dropped_fits = e;
-      few_texts = omega (arith, lawful.few_texts, length-inbox_of c v, length-inbox_of c after);
+      few_texts = omega (arith, lawful.few_texts, length-inbox_of c v, length-inbox_of c after, fewer);
       few_packets = omega (arith, lawful.few_packets, length-outbox_of k c v, length-outbox_of k c after);
       awaiting = lawful.awaiting;
       awaiting_said = lawful.awaiting_said;
@@ -82,11 +86,12 @@ leave_lawful k w false refusal next lawful h = lawful
 lawful_drop : (k : Mechanism) (c : Conversation) (side : Side) (v : View) (items : Items) (n : ℕ) → IsLawfulView k c side v
     → nat_le n (standing_of k c v items) ≡ true → IsLawfulView k c side (after_drop v items n)
 lawful_drop k c side v Texts n lawful enough =
-    lawful_boxes k c side v (v.done + n) v.dropped lawful (omega arith) (omega arith)
-    (within n (length (inbox_of c v)) v.done (length v.arrived) (length-inbox_of c v) lawful.done_fits enough)
-    lawful.dropped_fits
+    let apart = apart_once v.arrived lawful.once in
+    lawful_boxes k c side v (done_first v.arrived v.done n) v.dropped lawful
+    (omega (arith, ap length (first_leave v.arrived v.done n apart), length-drop n (standing v.arrived v.done))) (omega arith)
+    (first_done v.arrived v.done n apart lawful.done) lawful.dropped_fits
 lawful_drop k c side v Packets n lawful enough =
-    lawful_boxes k c side v v.done (v.dropped + n) lawful (omega arith) (omega arith) lawful.done_fits
+    lawful_boxes k c side v v.done (v.dropped + n) lawful (omega arith) (omega arith) lawful.done
     (within n (length (outbox_of k c v)) v.dropped (length (posts_of k c side))
     (length-outbox_of k c v ∙ ap (λ s. length (posts_of k c s) - v.dropped) lawful.side_is)
     lawful.dropped_fits enough)

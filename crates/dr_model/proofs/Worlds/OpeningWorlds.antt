@@ -16,6 +16,7 @@ use Rattle.dr_model.specs.Conversations.Conversation.{Said, is_said, opening_con
 use Rattle.dr_model.specs.Conversations.Indices.{missing_to, reach}
 use Rattle.dr_model.specs.Conversations.Formats.{Formats, side_format}
 use Rattle.dr_model.specs.Conversations.Lawful.{IsSeed, IsLawfulConversation, HasArrived, IsLawfulView}
+use Rattle.dr_model.specs.Conversations.Standing.{is_in}
 use Rattle.dr_model.specs.Conversations.ViewStates.{client_at, view_phase}
 use Rattle.dr_model.specs.Conversations.Views.{opening_view, missing_below, missing_of, outbox_of}
 use Rattle.dr_model.specs.Machines.Worlds.{opening_world}
@@ -64,7 +65,7 @@ opening_lawful k key formats side = record {
   once = λ p. omega arith;
   some = λ epoch one most peers. absurd (omega arith);
   near = omega (arith, ap length (opening_missing key formats side));
-  done_fits = omega arith;
+  done = record { once = tt; had = All-nil (λ p. is_in [] p ≡ true) };
   dropped_fits = omega arith;
   few_texts = omega (arith, length-inbox_of (opening_conversation key formats) (opening_view side));
   few_packets = opening_packets k key formats side;

@@ -40,7 +40,10 @@ previous_of c epoch = if nat_le 2 epoch then count_of c (epoch - 2) else 0
 abbrev pub body_at : Conversation → Position → Body
 body_at c p = slice_index_or (bodies_of c.said p.epoch) (p.index - 1) (text_body [])
 
--- the text there, and the receipt
+-- the kind of the text there, the text, and the receipt
+abbrev pub kind_at : Conversation → Position → ℕ
+kind_at c p = (body_at c p).kind
+
 abbrev pub text_at : Conversation → Position → List ℕ
 text_at c p = (body_at c p).content
 

@@ -11,6 +11,7 @@ use Rattle.session_model.specs.Schedule.{agreement_seed}
 use Rattle.dr_model.specs.Conversations.Conversation.{Conversation, body_at, count_of, is_said, receipt_at}
 use Rattle.dr_model.specs.Conversations.Posts.{epoch_version, posts_of}
 use Rattle.dr_model.specs.Conversations.Receipts.{IsBounded, IsTrue}
+use Rattle.dr_model.specs.Conversations.Standing.{AreDone}
 use Rattle.dr_model.specs.Conversations.ViewStates.{view_phase}
 use Rattle.dr_model.specs.Conversations.Views.{View, inbox_of, indices_in, missing_of, outbox_of, times_opened}
 
@@ -54,7 +55,7 @@ pub record IsLawfulView (k : Mechanism) (c : Conversation) (side : Side) (v : Vi
   -- at most KEPT_LIMIT are missing
   pub near : length (missing_of c v) ≤ KEPT_LIMIT
   -- only what stands leaves a box
-  pub done_fits : v.done ≤ length v.arrived
+  pub done : AreDone v.arrived v.done
   pub dropped_fits : v.dropped ≤ length (posts_of k c side)
   -- at most INBOX_LIMIT texts stand in the inbox, and at most OUTBOX_LIMIT packets in the outbox
   pub few_texts : length (inbox_of c v) ≤ INBOX_LIMIT

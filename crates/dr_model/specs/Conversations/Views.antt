@@ -1,7 +1,7 @@
 -- How far a side has come in a conversation.
 use Rattle.std.specs.List.{list_any}
 use Rattle.std.specs.Prelude.{Bool, List, [], count_by, drop, filter, if◌then◌else◌, length, map, max, nat_le, suc, zero, ℕ, ◌++◌, ◌+◌, ◌==◌, ◌∷◌}
-use Rattle.boxes.specs.Entries.{Entry, entry_under}
+use Rattle.boxes.specs.Entries.{Entry, entry_with}
 use Rattle.boxes.specs.Posts.{Post}
 use Rattle.dr_base.specs.Position.{is_at, is_own, position_at}
 use Rattle.dr_base.specs.declared.position.Position.{Position}
@@ -10,9 +10,10 @@ use Rattle.kem_laws.specs.Mechanism.{Mechanism}
 use Rattle.session_model.specs.Awaiting.{still_waiting, waiting_with}
 use Rattle.session_model.specs.declared.answer.Items.{Items}
 use Rattle.session_model.specs.declared.answer.Items.TheVariants.{Packets, Texts}
-use Rattle.dr_model.specs.Conversations.Conversation.{Conversation, count_of, receipt_at, text_at}
+use Rattle.dr_model.specs.Conversations.Conversation.{Conversation, count_of, kind_at, receipt_at, text_at}
 use Rattle.dr_model.specs.Conversations.Indices.{missing_to, reach}
 use Rattle.dr_model.specs.Conversations.Posts.{posts_of}
+use Rattle.dr_model.specs.Conversations.Standing.{done_first, standing}
 
 pub record View : Type 0 where
   pub side : Side
@@ -20,8 +21,8 @@ pub record View : Type 0 where
   pub epoch : ℕ
   -- the positions that it has opened, in the order that their packets arrived
   pub arrived : List Position
-  -- how many of the oldest texts have left its inbox
-  pub done : ℕ
+  -- the positions whose texts have left its inbox
+  pub done : List Position
   -- how many of the oldest packets have left its outbox
   pub dropped : ℕ
   -- its own texts that wait for a receipt, in the order that they were said
@@ -29,7 +30,8 @@ pub record View : Type 0 where
 
 -- where a conversation begins
 abbrev pub opening_view : Side → View
-opening_view side = record { side = side; epoch = 0; arrived = []; done = 0; dropped = 0; awaiting = [] }
+opening_view side =
+    record { side = side; epoch = 0; arrived = []; done = []; dropped = 0; awaiting = [] }
 
 -- the side has opened the packet of this position
 abbrev pub has_opened : View → Position → Bool
@@ -80,15 +82,15 @@ missing_of c v = missing_below c v (v.epoch + 1)
 
 -- the text of a position, under it
 abbrev pub entry_at : Conversation → Position → Entry
-entry_at c p = entry_under p (text_at c p)
+entry_at c p = entry_with p (kind_at c p) (text_at c p)
 
 -- all texts that the side has opened, in the order of their arrival
 abbrev pub history_of : Conversation → View → List Entry
 history_of c v = map (entry_at c) v.arrived
 
--- the texts that stand in its inbox, the oldest first
+-- the texts that stand in its inbox, the oldest first: those that arrived and aren't done
 abbrev pub inbox_of : Conversation → View → List Entry
-inbox_of c v = drop v.done (history_of c v)
+inbox_of c v = map (entry_at c) (standing v.arrived v.done)
 
 -- the packets that stand in its outbox, the oldest first
 abbrev pub outbox_of : Mechanism → Conversation → View → List Post
@@ -101,5 +103,5 @@ standing_of k c v Packets = length (outbox_of k c v)
 
 -- the view once so many of the oldest have left it
 abbrev pub after_drop : View → Items → ℕ → View
-after_drop v Texts n = record v { done = v.done + n }
+after_drop v Texts n = record v { done = done_first v.arrived v.done n }
 after_drop v Packets n = record v { dropped = v.dropped + n }

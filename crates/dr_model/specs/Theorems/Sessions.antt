@@ -13,7 +13,7 @@ use Rattle.session_model.specs.States.{opening_state}
 use Rattle.session_model.specs.Taking.{ReceiveDraft, draft_receive}
 use Rattle.session_model.specs.declared.answer.Refusal.{Refusal}
 use Rattle.session_model.specs.declared.answer.Refusal.TheVariants.{EpochFull, LastEpoch, OwnPacket, SkipLimit, Spent, TextTooLong}
-use Rattle.dr_model.specs.Conversations.Conversation.{Conversation, count_of, is_said, next_position, opening_conversation, text_at, with_text, with_turn}
+use Rattle.dr_model.specs.Conversations.Conversation.{Conversation, count_of, is_said, kind_at, next_position, opening_conversation, text_at, with_text, with_turn}
 use Rattle.dr_model.specs.Conversations.Formats.{Formats, side_format}
 use Rattle.dr_model.specs.Conversations.Lawful.{IsLawfulConversation, IsLawfulView}
 use Rattle.dr_model.specs.Conversations.Posts.{post_fields, post_at}
@@ -29,7 +29,12 @@ received_in k c v p =
     if is_own v.side p.epoch then Err (OwnPacket p.epoch)
     else (if has_opened v p then Err (Spent p)
     else (if nat_lt KEPT_LIMIT (length (missing_of c opened)) then Err (SkipLimit (length (missing_of c opened)))
-    else Ok (record { position = p; text = text_at c p; next = state_of k c opened })))
+    else Ok (record {
+      position = p;
+      kind = kind_at c p;
+      text = text_at c p;
+      next = state_of k c opened;
+    })))
 
 -- whether a session may draft a text of this length, and then whether that needs a seed: as the machine says, but for the
 -- outbox, which is its client's

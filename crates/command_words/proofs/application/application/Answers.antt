@@ -1,18 +1,19 @@
+use Rattle.std.proofs.Common.{[], ◌<◌, arith, length, subst, sym}
+use Rattle.std.specs.Borrow.{Bor}
+use Rattle.clap.specs.Walk.{Text}
+use Rattle.command_words.specs.Application.{Makes}
+use Rattle.command_words.proofs.Building.{all_named, how_many, one_more}
 use Rattle.command_words.proofs.application.application.Goals as goal
 
+-- what a place past the end gives
+abbrev some : Bor Text
+some = record { ref_ptr = (0, 0); now = [] }
+
+pub names-preserved : goal.names-preserved
+names-preserved c =
+    let within : c.names.at < length c.names-names.result = omega (arith, c.names-test.true, how_many c.names-names.result c.names-names.ensures) in
+    subst (Makes c.with_command-command.result) (sym (one_more c.names-names.result c.names.at some within))
+    (c.with_command-command.ensures _ c.names.invariant)
+
 pub returns : goal.returns
-returns c =
-    let begin = c.with_extended-command.ensures _ c.without_commands.ensures in
-    let say = c.with_valued-command.ensures _ begin in
-    let take = c.with_bare-command.ensures _ say in
-    let inbox = c.with_bare-command-2.ensures _ take in
-    let done = c.with_valued-command-2.ensures _ inbox in
-    let sent = c.with_valued-command-3.ensures _ done in
-    let outbox = c.with_bare-command-3.ensures _ sent in
-    let awaiting = c.with_bare-command-4.ensures _ outbox in
-    let state = c.with_bare-command-5.ensures _ awaiting in
-    let check = c.with_bare-command-6.ensures _ state in
-    let sync = c.with_valued-command-4.ensures _ check in
-    let relay = c.with_listed-command.ensures _ sync in
-    let duet = c.with_bare-command-7.ensures _ relay in
-    c.with_paired.ensures _ duet
+returns c = subst (Makes c.names.command) (all_named c.names-names.result c.names.at c.names-names.ensures c.names-test.false) c.names.invariant

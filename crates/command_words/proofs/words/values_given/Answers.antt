@@ -6,6 +6,5 @@ use Rattle.command_words.proofs.Answering.{all_values}
 use Rattle.command_words.proofs.words.values_given.Goals as goal
 
 pub returns : goal.returns
-returns c = all_values (found_of c.args.given.now) (option_map (λ s. s.now) c.get_str.result) (option_map (λ s. s.now) c.get_str-2.result)
-    (option_map (λ s. texts s.now) c.get_strs.result) (texts c.new-values.result.items) _ _ _ (ap texts c.new-values.ensures.items)
-    c.in_ok-push_one.ensures c.in_ok-push_one-2.ensures c.in_ok-push_more.ensures c.get_str.ensures c.get_str-2.ensures c.get_strs.ensures
+returns c = all_values (found_of c.args.given.now) (option_map (λ s. texts s.now) c.get_strs.result) (texts c.new-values.result.items) _
+    (ap texts c.new-values.ensures.items) c.in_ok-push_all.ensures c.get_strs.ensures

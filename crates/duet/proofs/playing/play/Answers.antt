@@ -6,6 +6,7 @@ use Rattle.session_model.specs.Schedule.{agreement_seed}
 use Rattle.duet.specs.Held.{DuetNow, opening_duet}
 use Rattle.duet.specs.Tally.{opening_tally}
 use Rattle.duet.specs.Trace.{played}
+use Rattle.duet.proofs.Following.{receipts_hold}
 use Rattle.duet.proofs.PlayedLines.{plays_cut, plays_first, plays_last, plays_on, plays_short, tallies_last}
 use Rattle.duet.proofs.playing.play.Goals as goal
 
@@ -50,3 +51,8 @@ returns-clause-ok g c = plays_last _ _ _ _ _ _ _ c.deeds.invariant c.in_default.
 
 pub returns-clause-tally : goal.returns-clause-tally
 returns-clause-tally g c = c.reached.ensures ∙ tallies_last _ _ _ _ _ _ _ c.deeds.invariant c.in_default.ensures
+
+pub returns-clause-receipts : goal.returns-clause-receipts
+returns-clause-receipts g c = λ whole fair.
+    receipts_hold g.K.Kem.mechanism c.args.script.now g.met.K.Kem.law
+    (subst (λ key. IsSome (g.K.Kem.mechanism.meaning.pair_of (agreement_seed key))) c.key.ensures c.in-Ok.ensures.pair) whole fair

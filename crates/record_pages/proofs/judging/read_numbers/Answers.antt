@@ -7,10 +7,10 @@ use Rattle.record_pages.proofs.judging.read_numbers.Goals as goal
 
 pub returns-then-not-is_entry-clause-fault : goal.returns-then-not-is_entry-clause-fault
 returns-then-not-is_entry-clause-fault c =
-    let isnt : is_entry c.args.pages c.entries.numbers.items (n c.args.pages c.args.count c.entries.at c.args.body.now c.entries.numbers.items c.entries-test.true) ≡ false =
-    ap (λ k. is_entry c.args.pages c.entries.numbers.items k) (sym c.number_at-number.ensures)
-    ∙ ap (λ l. is_entry c.args.pages l c.number_at-number.result) (sym c.deref.ensures.value) ∙ sym c.is_entry.ensures ∙ c.if-not-is_entry.true in
-    sym (c.entries.invariant.fault ∙ this_fault c.args.pages c.args.count c.entries.at c.args.body.now c.entries.numbers.items c.entries-test.true isnt)
+    let isnt : is_entry c.args.least c.args.pages c.entries.numbers.items (n c.args.least c.args.pages c.args.count c.entries.at c.args.body.now c.entries.numbers.items c.entries-test.true) ≡ false =
+    ap (λ k. is_entry c.args.least c.args.pages c.entries.numbers.items k) (sym c.number_at-number.ensures)
+    ∙ ap (λ l. is_entry c.args.least c.args.pages l c.number_at-number.result) (sym c.deref.ensures.value) ∙ sym c.is_entry.ensures ∙ c.if-not-is_entry.true in
+    sym (c.entries.invariant.fault ∙ this_fault c.args.least c.args.pages c.args.count c.entries.at c.args.body.now c.entries.numbers.items c.entries-test.true isnt)
 
 pub unwrap-requires : goal.unwrap-requires
 unwrap-requires c =
@@ -21,16 +21,16 @@ unwrap-requires c =
 pub entries-preserved : goal.entries-preserved
 entries-preserved c =
     let pushed : c.push.new.self.items ≡ c.entries.numbers.items ++ c.number_at-number.result ∷ [] = grind (arith, common_steps) in
-    let is : is_entry c.args.pages c.entries.numbers.items (n c.args.pages c.args.count c.entries.at c.args.body.now c.entries.numbers.items c.entries-test.true) ≡ true =
-    ap (λ k. is_entry c.args.pages c.entries.numbers.items k) (sym c.number_at-number.ensures)
-    ∙ ap (λ l. is_entry c.args.pages l c.number_at-number.result) (sym c.deref.ensures.value) ∙ sym c.is_entry.ensures ∙ c.if-not-is_entry.false in
-    let more : c.push.new.self.items ≡ c.entries.numbers.items ++ n c.args.pages c.args.count c.entries.at c.args.body.now c.entries.numbers.items c.entries-test.true ∷ [] =
+    let is : is_entry c.args.least c.args.pages c.entries.numbers.items (n c.args.least c.args.pages c.args.count c.entries.at c.args.body.now c.entries.numbers.items c.entries-test.true) ≡ true =
+    ap (λ k. is_entry c.args.least c.args.pages c.entries.numbers.items k) (sym c.number_at-number.ensures)
+    ∙ ap (λ l. is_entry c.args.least c.args.pages l c.number_at-number.result) (sym c.deref.ensures.value) ∙ sym c.is_entry.ensures ∙ c.if-not-is_entry.false in
+    let more : c.push.new.self.items ≡ c.entries.numbers.items ++ n c.args.least c.args.pages c.args.count c.entries.at c.args.body.now c.entries.numbers.items c.entries-test.true ∷ [] =
     pushed ∙ ap (λ k. c.entries.numbers.items ++ k ∷ []) c.number_at-number.ensures in
     record {
-      read = more ∙ next_read c.args.pages c.args.count c.entries.at c.args.body.now c.entries.numbers.items c.entries-test.true c.entries.invariant.read;
+      read = more ∙ next_read c.args.least c.args.pages c.args.count c.entries.at c.args.body.now c.entries.numbers.items c.entries-test.true c.entries.invariant.read;
       fault = c.entries.invariant.fault
-          ∙ next_fault c.args.pages c.args.count c.entries.at c.args.body.now c.entries.numbers.items c.entries-test.true is
-          ∙ ap (λ l. entry_fault c.args.pages l (6 + 2 * (c.entries.at + 1)) (numbers_in (c.args.count - (c.entries.at + 1)) (drop (5 + 2 * (c.entries.at + 1)) c.args.body.now))) (sym more);
+          ∙ next_fault c.args.least c.args.pages c.args.count c.entries.at c.args.body.now c.entries.numbers.items c.entries-test.true is
+          ∙ ap (λ l. entry_fault c.args.least c.args.pages l (6 + 2 * (c.entries.at + 1)) (numbers_in (c.args.count - (c.entries.at + 1)) (drop (5 + 2 * (c.entries.at + 1)) c.args.body.now))) (sym more);
       room = omega (arith, c.entries.invariant.room, c.push.ensures.capacity);
       capacity = omega (arith, c.entries.invariant.capacity, c.push.ensures.capacity);
     }

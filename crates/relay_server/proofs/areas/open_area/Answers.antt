@@ -10,4 +10,4 @@ returns-in-Ok-clause-opened g c =
 pub returns-in-Err-Damaged-clause-refused : goal.returns-in-Err-Damaged-clause-refused
 returns-in-Err-Damaged-clause-refused g c =
     let all = c.in-Err-Damaged.ensures.refused.damaged c.in-Err-Damaged.slot c.in-Err-Damaged.at c.in-Err-Damaged.field-0-is in
-    (refl, all.1, all.3)
+    (refl, all.1, all.3, all.0)

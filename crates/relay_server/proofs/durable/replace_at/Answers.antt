@@ -1,7 +1,11 @@
-use Rattle.std.proofs.Common.{false, get_or, subst, take, true, arith}
+use Rattle.std.proofs.Common.{Err, Ok, Some, false, get_or, subst, take, true, arith}
 use Rattle.std.proofs.lemmas.Option.{get_or_from_slice_get, slice_get-get_or}
+use Rattle.dr_disk.specs.Called.{Called, itself}
+use Rattle.slot_store.specs.Putting.{call_of}
+use Rattle.slot_store.specs.Stops.{calls_of}
+use Rattle.slot_store.specs.Store.{content}
 use Rattle.relay_server.specs.Durable.{IsReplaced}
-use Rattle.relay_server.proofs.StorePlaces.{others_stay, put_there}
+use Rattle.relay_server.proofs.StorePlaces.{called_err, called_ok, others_stay, put_there}
 use Rattle.relay_server.proofs.durable.replace_at.Goals as goal
 
 pub replace-requires-clause-text : goal.replace-requires-clause-text
@@ -64,3 +68,19 @@ returns-in-Err-clause-room g c =
     let ready = c.requires.ready (get_or c.args.stores.now c.args.place c.index-stores-place.result)
     (slice_get-get_or c.args.stores.now c.args.place c.index-stores-place.result c.requires.inside) in
     omega (arith, ready.3, c.replace.ensures.room)
+
+pub returns-in-Ok-clause-calls : goal.returns-in-Ok-clause-calls
+returns-in-Ok-clause-calls g c = λ store was.
+    let start = g.D.Disk.state c.args.disk.now in
+    let now = g.D.Disk.state c.replace.new.disk in
+    subst (λ x. Called {T = Unit {0}} (calls_of (content x) (Some (take c.args.len c.args.text.now.items))) itself start now (Ok tt))
+    (get_or_from_slice_get c.args.stores.now c.args.place store c.index-stores-place.result was)
+    (called_ok _ call_of start now c.in-Ok.ensures.calls)
+
+pub returns-in-Err-clause-calls : goal.returns-in-Err-clause-calls
+returns-in-Err-clause-calls g c = λ store was.
+    let start = g.D.Disk.state c.args.disk.now in
+    let now = g.D.Disk.state c.replace.new.disk in
+    subst (λ x. Called {T = Unit {0}} (calls_of (content x) (Some (take c.args.len c.args.text.now.items))) itself start now (Err (call_of c.in-Err.fault)))
+    (get_or_from_slice_get c.args.stores.now c.args.place store c.index-stores-place.result was)
+    (called_err _ call_of start now c.in-Err.fault c.in-Err.ensures.calls)

@@ -49,6 +49,7 @@ returns-clause-fills g c =
       none = λ other there. let e : Some store ≡ Some other = sym here ∙ there in let f : store ≡ other = cc in subst (λ (s : SlotStore). content s ≡ None) f none;
       stores_count = c.replace_at.ensures.count;
       written = c.write_text-len.ensures.text;
+      is_record = c.write_text-len.ensures.record;
       others = c.replace_at.ensures.others;
       there = c.replace_at.ensures.there;
       local = c.locality.ensures;

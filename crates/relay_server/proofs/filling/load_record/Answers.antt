@@ -1,12 +1,10 @@
-use Rattle.std.proofs.Common.{◌≡◌, true, false, arith}
-use Rattle.dr_base.proofs.Bytes.{are_bytes}
+use Rattle.std.proofs.Common.{◌≡◌, true, false}
 use Rattle.relay_server.proofs.LoadedBoxes.{refused, taken}
 use Rattle.relay_server.proofs.filling.load_record.Goals as goal
 
 pub returns-in-Taken : goal.returns-in-Taken
 returns-in-Taken c = record {
-  loaded = λ is. taken c.args.relay.now c.load.new.self c.args.place c.args.text.now c.requires.clean
-      (λ box read. (c.records.ensures.read_was_printed c.args.text.now box (are_bytes c.args.text.now (λ i. omega (arith, c.type_inv.text i))) read).0) c.load.ensures.count c.in-Taken.ensures.loads;
+  loaded = λ is. taken c.args.relay.now c.load.new.self c.args.place c.args.text.now c.requires.clean c.load.ensures.count c.in-Taken.ensures.loads;
   other = λ (e : true ≡ false). λ was here. absurd cc;
   count = c.load.ensures.count;
 }

@@ -14,4 +14,4 @@ returns-clause-whenever g c = λ boxes got image r. record {
 
 pub returns-clause-moment : goal.returns-clause-moment
 returns-clause-moment g c = λ boxes start from frames image moment.
-    moment_stands g.D.Disk.state g.P.Pipe.port g.met.D.Disk.lawful c.resting.ensures.record_of boxes start from frames image moment
+    moment_stands g.D.Disk.state g.P.Pipe.port g.met.D.Disk.lawful c.resting.ensures boxes start from frames image moment

@@ -1,7 +1,7 @@
 use Rattle.std.proofs.Common.{[], ap, subst, sym, ◌∙◌}
 use Rattle.endings.specs.declared.ending.Ending.TheVariants.{Done}
 use Rattle.session_commands.specs.Beginning.{Begins}
-use Rattle.session_commands.specs.Lines.{session_line}
+use Rattle.command_lines.specs.Lines.{session_line}
 use Rattle.session_commands.proofs.Beginnings.{begun_begins, unbegun_begins}
 use Rattle.session_commands.proofs.beginning.begin_on.Goals as goal
 

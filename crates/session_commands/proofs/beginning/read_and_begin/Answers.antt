@@ -1,6 +1,6 @@
 use Rattle.std.proofs.Common.{refl}
 use Rattle.session_commands.specs.Beginning.{had_key, had_no_key}
-use Rattle.session_commands.specs.Closing.{begun_ending, begun_lines}
+use Rattle.command_lines.specs.Closing.{begun_ending, begun_lines}
 use Rattle.session_commands.proofs.beginning.read_and_begin.Goals as goal
 
 pub returns-in-Err-clause-runs : goal.returns-in-Err-clause-runs

@@ -1,6 +1,6 @@
 use Rattle.std.proofs.Common.{◌∙◌}
 use Rattle.session_commands.specs.Checking.{found_lines, gate_lines}
-use Rattle.session_commands.proofs.Shows.{both_pieces, cut_in_first}
+use Rattle.command_lines.proofs.Pieces.{both_pieces, cut_in_first}
 use Rattle.session_commands.proofs.checking.write_report.Goals as goal
 
 pub returns-in-Err : goal.returns-in-Err

@@ -1,7 +1,7 @@
 use Rattle.dr_disk.specs.Spans.{IsQuiet}
 use Rattle.dr_model.specs.Machines.Acts.{dropping}
 use Rattle.session_commands.specs.Asking.{asked_drop}
-use Rattle.session_commands.specs.Closing.{ending_by, lines_of_ending}
+use Rattle.command_lines.specs.Closing.{ending_by, lines_of_ending}
 use Rattle.session_commands.proofs.Quiet.{act_counts}
 use Rattle.session_commands.proofs.dropping.drop_items.Goals as goal
 

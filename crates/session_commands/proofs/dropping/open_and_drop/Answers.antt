@@ -3,7 +3,7 @@ use Rattle.dr_model.specs.Machines.Acts.{dropping}
 use Rattle.session_model.specs.declared.answer.Answer.TheVariants.{Dropped}
 use Rattle.client.specs.Outcomes.{dropped_as}
 use Rattle.session_commands.specs.Asking.{asked_drop}
-use Rattle.session_commands.specs.Closing.{ending_by, lines_of_ending}
+use Rattle.command_lines.specs.Closing.{ending_by, lines_of_ending}
 use Rattle.session_commands.specs.InWorlds.{RunsAct}
 use Rattle.session_commands.proofs.Acts.{act_runs}
 use Rattle.session_commands.proofs.Unopened.{unopened_runs}

@@ -1,7 +1,7 @@
 use Rattle.std.proofs.Common.{◌≡◌}
 use Rattle.dr_disk.specs.Spans.{IsQuiet}
 use Rattle.session_commands.specs.Asking.{asked_say}
-use Rattle.session_commands.specs.Closing.{ending_by, lines_of_ending}
+use Rattle.command_lines.specs.Closing.{ending_by, lines_of_ending}
 use Rattle.session_commands.proofs.Quiet.{act_counts, no_draw_failed}
 use Rattle.session_commands.proofs.saying.say.Goals as goal
 

@@ -1,6 +1,6 @@
 use Rattle.std.proofs.Common.{[], refl, subst, sym}
 use Rattle.session_commands.specs.Asking.{asked_say}
-use Rattle.session_commands.specs.Closing.{ending_by, lines_of_ending}
+use Rattle.command_lines.specs.Closing.{ending_by, lines_of_ending}
 use Rattle.session_commands.specs.InWorlds.{RunsAct}
 use Rattle.session_commands.proofs.Says.{say_runs}
 use Rattle.session_commands.proofs.Unopened.{unopened_runs}

@@ -1,4 +1,4 @@
-use Rattle.session_commands.specs.Closing.{ending_by, lines_of_ending}
+use Rattle.command_lines.specs.Closing.{ending_by, lines_of_ending}
 use Rattle.session_commands.proofs.Quiet.{take_counts}
 use Rattle.session_commands.proofs.taking.take.Goals as goal
 

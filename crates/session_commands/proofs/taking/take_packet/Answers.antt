@@ -2,7 +2,7 @@ use Rattle.std.proofs.Common.{[], refl, subst, sym}
 use Rattle.dr_model.specs.Machines.Acts.{taking}
 use Rattle.client.specs.Outcomes.{taken_as}
 use Rattle.session_commands.specs.Asking.{asked_take}
-use Rattle.session_commands.specs.Closing.{ending_by, lines_of_ending}
+use Rattle.command_lines.specs.Closing.{ending_by, lines_of_ending}
 use Rattle.session_commands.specs.InWorlds.{RunsAct}
 use Rattle.session_commands.proofs.Acts.{act_runs}
 use Rattle.session_commands.proofs.Unopened.{unopened_runs}

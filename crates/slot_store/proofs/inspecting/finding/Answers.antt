@@ -2,7 +2,7 @@ use Rattle.std.proofs.Common.{sym, ◌∙◌, ap, length, ℕ, List}
 use Rattle.slot_store.specs.declared.report.Finding.TheVariants.{Record}
 use Rattle.slot_store.specs.Reading.{reading_of}
 use Rattle.slot_store.specs.Reports.{finding_of}
-use Rattle.slot_store.proofs.Settled.{has_none, has_text}
+use Rattle.slot_store.proofs.Wipings.Settled.{has_none, has_text}
 use Rattle.slot_store.proofs.inspecting.finding.Goals as goal
 
 pub returns-then-pager-eq0 : goal.returns-then-pager-eq0

@@ -2,8 +2,8 @@ use Rattle.std.proofs.Common.{sym, subst, ap, ◌∙◌}
 use Rattle.pages.proofs.Looking.{looks_as, looks_failed, looks_twice}
 use Rattle.slot_store.specs.Locating.{HoldsWhatCounts, IsLocated}
 use Rattle.slot_store.specs.Reports.{finding_of}
-use Rattle.slot_store.proofs.Reported.{gate_told, rests_found}
-use Rattle.slot_store.proofs.TablesRead.{tables_of}
+use Rattle.slot_store.proofs.Openings.Reported.{gate_told, rests_found}
+use Rattle.slot_store.proofs.Openings.TablesRead.{tables_of}
 use Rattle.slot_store.proofs.inspecting.report_read.Goals as goal
 
 pub rests-requires-clause-tables : goal.rests-requires-clause-tables

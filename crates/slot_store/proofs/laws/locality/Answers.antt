@@ -1,6 +1,6 @@
 use Rattle.slot_store.specs.Layout.{laid}
 use Rattle.slot_store.specs.Store.{Rests}
-use Rattle.slot_store.proofs.WithinArea.{reading_same, recovered_same, rests_same}
+use Rattle.slot_store.proofs.Places.WithinArea.{reading_same, recovered_same, rests_same}
 use Rattle.slot_store.proofs.Named.{laid_entries}
 use Rattle.slot_store.proofs.laws.locality.Goals as goal
 

@@ -1,7 +1,7 @@
 use Rattle.std.proofs.Common.{sym, subst}
 use Rattle.slot_store.specs.Reading.{OpensAs, area_reading}
 use Rattle.slot_store.specs.Records.{stored_record, shot_in}
-use Rattle.slot_store.proofs.Shown.{holds_again, holds_shown, holds_text, none_shown}
+use Rattle.slot_store.proofs.Places.Shown.{holds_again, holds_shown, holds_text, none_shown}
 use Rattle.slot_store.proofs.laws.readings.Goals as goal
 
 pub returns : goal.returns

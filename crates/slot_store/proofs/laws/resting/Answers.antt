@@ -6,7 +6,7 @@ use Rattle.slot_store.specs.Layout.{laid}
 use Rattle.slot_store.specs.Store.{Rests}
 use Rattle.slot_store.proofs.Entries.{entries_within}
 use Rattle.slot_store.proofs.Named.{laid_entries}
-use Rattle.slot_store.proofs.RestBytes.{rest_bytes}
+use Rattle.slot_store.proofs.Places.RestBytes.{rest_bytes}
 use Rattle.slot_store.proofs.Standing.{rests_recovered, rests_undamaged}
 use Rattle.slot_store.proofs.laws.resting.Goals as goal
 

@@ -1,4 +1,4 @@
-use Rattle.slot_store.proofs.Wider.{holds_wider, none_wider, stored_wider}
+use Rattle.slot_store.proofs.Places.Wider.{holds_wider, none_wider, stored_wider}
 use Rattle.slot_store.proofs.laws.widening.Goals as goal
 
 pub returns : goal.returns

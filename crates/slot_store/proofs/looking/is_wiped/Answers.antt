@@ -1,7 +1,7 @@
 use Rattle.std.proofs.Common.{◌≡◌, ◌-◌, length, replicate, ◌∙◌, ap, arith}
 use Rattle.dr_base.specs.declared.limits.TheConstants.{PAGE}
-use Rattle.slot_store.specs.Judged.{table_with}
-use Rattle.slot_store.proofs.Wiping.{blank_true}
+use Rattle.pages.specs.Judged.{table_with}
+use Rattle.slot_store.proofs.Wipings.Wiping.{blank_true}
 use Rattle.slot_store.proofs.looking.is_wiped.Goals as goal
 
 pub returns-then-gate-eq0 : goal.returns-then-gate-eq0

@@ -7,8 +7,8 @@ use Rattle.pages.specs.Clearing.{AreBlank}
 use Rattle.pages.specs.Layouts.{IsSound}
 use Rattle.record_pages.specs.Plans.{is_among}
 use Rattle.slot_store.proofs.Entries.{entries_inside}
-use Rattle.slot_store.proofs.Marks.{marks_of}
-use Rattle.slot_store.proofs.Wiping.{sound_area}
+use Rattle.slot_store.proofs.Wipings.Marks.{marks_of}
+use Rattle.slot_store.proofs.Wipings.Wiping.{sound_area}
 use Rattle.slot_store.proofs.looking.others_blank.Goals as goal
 
 pub mark_pages-requires : goal.mark_pages-requires

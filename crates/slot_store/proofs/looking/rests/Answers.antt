@@ -1,6 +1,6 @@
 use Rattle.std.proofs.Common.{◌≡◌, false, true, sym, ◌∙◌}
 use Rattle.pages.proofs.Looking.{looks_as, looks_none}
-use Rattle.slot_store.proofs.Wiped.{laid_blank, laid_by, laid_others, asked_of}
+use Rattle.slot_store.proofs.Wipings.Wiped.{laid_blank, laid_by, laid_others, asked_of}
 use Rattle.slot_store.proofs.looking.rests.Goals as goal
 
 pub returns-then-not-others_wiped : goal.returns-then-not-others_wiped

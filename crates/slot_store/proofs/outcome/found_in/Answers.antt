@@ -1,6 +1,6 @@
 use Rattle.std.proofs.Common.{sym, ap}
 use Rattle.std.specs.Prelude.{is_some}
-use Rattle.slot_store.proofs.Settled.{has_none, has_text}
+use Rattle.slot_store.proofs.Wipings.Settled.{has_none, has_text}
 use Rattle.slot_store.proofs.outcome.found_in.Goals as goal
 
 pub returns-then-pager-eq0 : goal.returns-then-pager-eq0

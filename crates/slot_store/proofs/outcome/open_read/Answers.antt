@@ -1,7 +1,7 @@
 use Rattle.std.proofs.Common.{subst}
 use Rattle.slot_store.specs.Locating.{HoldsWhatCounts, IsLocated, IsLocatedBy}
-use Rattle.slot_store.proofs.OpenedStore.{opens_failed, opens_stored}
-use Rattle.slot_store.proofs.TablesRead.{settling_later, tables_of}
+use Rattle.slot_store.proofs.Openings.OpenedStore.{opens_failed, opens_stored}
+use Rattle.slot_store.proofs.Openings.TablesRead.{settling_later, tables_of}
 use Rattle.slot_store.proofs.outcome.open_read.Goals as goal
 
 pub settle-requires-clause-settling : goal.settle-requires-clause-settling
@@ -26,7 +26,7 @@ returns-in-Ok-clause-opens g c =
     let held : HoldsWhatCounts g.G.Grammar.fault_at c.args.area start c.in-Ok-Held.pager =
     subst (IsLocated g.G.Grammar.fault_at c.args.area start) c.in-Ok-Held.field-0-is c.in-Ok-Held.ensures.located.found in
     opens_stored g.G.Grammar.fault_at c.args.area c.in-Ok-Held.pager held.area_is _ start _ _ c.requires.settled
-    c.in-Ok-Held.ensures.located.looks held.shown c.found_in-found.result c.in-Ok.field-0 c.in-Ok.ensures held.read held.text c.found_in-found.ensures
+    c.in-Ok-Held.ensures.located.looks held.shown c.found_in-found.result c.in-Ok.field-0 c.in-Ok.ensures held.read held.text held.first c.found_in-found.ensures
 
 pub returns-in-Err-settle-clause-opens : goal.returns-in-Err-settle-clause-opens
 returns-in-Err-settle-clause-opens g c =

@@ -21,7 +21,7 @@ returns-in-Ok-read_table g c =
         room = record {
           first_long = c.read_table.ensures.long;
           second_long = c.read_table-2.ensures.long;
-          page_long = c.requires.scratch.page_long;
+          room_long = c.requires.scratch.room_long;
           marks = c.requires.scratch.marks;
         };
         read = record {

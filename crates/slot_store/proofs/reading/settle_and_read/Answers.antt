@@ -2,7 +2,7 @@ use Rattle.dr_disk.specs.Called.{itself}
 use Rattle.dr_disk.specs.declared.call.Call.TheVariants.{Sync}
 use Rattle.dr_disk.proofs.Calling.{fails, goes_well, then_any}
 use Rattle.dr_disk.proofs.Steps.{spans, widen}
-use Rattle.slot_store.proofs.TablesRead.{tables_later}
+use Rattle.slot_store.proofs.Openings.TablesRead.{tables_later}
 use Rattle.slot_store.proofs.reading.settle_and_read.Goals as goal
 
 pub returns-in_default-clause-calls : goal.returns-in_default-clause-calls

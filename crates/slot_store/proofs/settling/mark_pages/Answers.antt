@@ -1,5 +1,5 @@
 use Rattle.std.proofs.Common.{refl, ◌∙◌, arith}
-use Rattle.slot_store.proofs.Marks.{mark_all, mark_more}
+use Rattle.slot_store.proofs.Wipings.Marks.{mark_all, mark_more}
 use Rattle.slot_store.proofs.settling.mark_pages.Goals as goal
 
 pub numbers-preserved : goal.numbers-preserved

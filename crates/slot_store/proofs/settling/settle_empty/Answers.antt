@@ -4,9 +4,9 @@ use Rattle.dr_disk.specs.Called.{itself}
 use Rattle.dr_disk.proofs.Calling.{failed_as, then_any}
 use Rattle.pages.proofs.Looking.{untouched_twice}
 use Rattle.slot_store.proofs.Alike.{both_moments, left_like, like_shots}
-use Rattle.slot_store.proofs.EmptySettled.{empty_blank, empty_body, empty_closed, empty_gate, later_closed, none_counts, none_mute, none_unnamed, second_read, twice_rests}
-use Rattle.slot_store.proofs.Marks.{no_marks}
-use Rattle.slot_store.proofs.Wiping.{on_ok}
+use Rattle.slot_store.proofs.Wipings.EmptySettled.{empty_blank, empty_body, empty_closed, empty_gate, later_closed, none_counts, none_mute, none_unnamed, second_read, twice_rests}
+use Rattle.slot_store.proofs.Wipings.Marks.{no_marks}
+use Rattle.slot_store.proofs.Wipings.Wiping.{on_ok}
 use Rattle.slot_store.proofs.settling.settle_empty.Goals as goal
 
 pub wipe_table-requires-clause-counts : goal.wipe_table-requires-clause-counts

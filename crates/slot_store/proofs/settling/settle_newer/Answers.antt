@@ -4,9 +4,9 @@ use Rattle.std.proofs.lemmas.List.{length-replicate}
 use Rattle.record_pages.specs.Plans.{is_among}
 use Rattle.slot_store.proofs.Entries.{entries_inside}
 use Rattle.slot_store.proofs.Alike.{like_shots}
-use Rattle.slot_store.proofs.Marks.{marks_of}
-use Rattle.slot_store.proofs.NewerSettled.{newer_blank, newer_body, newer_counts, newer_gate, newer_mute, newer_rests, newer_unnamed}
-use Rattle.slot_store.proofs.Wiping.{on_ok}
+use Rattle.slot_store.proofs.Wipings.Marks.{marks_of}
+use Rattle.slot_store.proofs.Wipings.NewerSettled.{newer_blank, newer_body, newer_counts, newer_gate, newer_mute, newer_rests, newer_unnamed}
+use Rattle.slot_store.proofs.Wipings.Wiping.{on_ok}
 use Rattle.slot_store.proofs.settling.settle_newer.Goals as goal
 
 pub wipe_table-requires-clause-counts : goal.wipe_table-requires-clause-counts

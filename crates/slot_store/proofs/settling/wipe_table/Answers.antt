@@ -4,7 +4,7 @@ use Rattle.pages.specs.Clearing.{AreReadBlank}
 use Rattle.pages.specs.Tables.{AreZeros}
 use Rattle.pages.specs.Tidying.{IsToTidy}
 use Rattle.record_pages.specs.Tables.{record_names}
-use Rattle.slot_store.proofs.Wiping.{blank_true, to_tidy, zeros_for}
+use Rattle.slot_store.proofs.Wipings.Wiping.{blank_true, to_tidy, zeros_for}
 use Rattle.slot_store.proofs.settling.wipe_table.Goals as goal
 
 pub tidy-requires-clause-read : goal.tidy-requires-clause-read

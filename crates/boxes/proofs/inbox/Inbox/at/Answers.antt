@@ -1,5 +1,6 @@
-use Rattle.std.proofs.Common.{◌≡◌, false, true, None, Some, refl, ap, ap₂, ◌∙◌, arith}
-use Rattle.boxes.specs.Entries.{as_entry, entry_under}
+use Rattle.std.proofs.Common.{◌≡◌, ℕ, false, true, None, Some, refl, ap, ap₂, ◌∙◌, arith}
+use Rattle.boxes.specs.Entries.{as_entry, entry_with}
+use Rattle.dr_base.specs.declared.position.Position.{Position}
 use Rattle.boxes.proofs.Shown.{shown-at, shown-length}
 use Rattle.boxes.proofs.inbox.Inbox.at.Goals as goal
 
@@ -9,7 +10,7 @@ returns-in-Some-clause-variant c =
 
 pub returns-in-Some-clause-entry : goal.returns-in-Some-clause-entry
 returns-in-Some-clause-entry c =
-    ap Some (ap₂ entry_under c.position.ensures c.bytes.ensures.value)
+    ap Some (ap₂ (λ (p : Position) (k : ℕ). entry_with p k c.bytes.result.now) c.position.ensures c.kind.ensures ∙ ap (entry_with c.in-Some.stored.now.position c.in-Some.stored.now.kind) c.bytes.ensures.value)
     ∙ shown-at as_entry c.self.inside.row c.args.self.now c.args.at (Some c.in-Some.stored.now) c.self.view_is c.in-Some.ensures.item
 
 pub returns-in-None-clause-variant : goal.returns-in-None-clause-variant

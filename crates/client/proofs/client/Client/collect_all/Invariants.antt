@@ -1,17 +1,15 @@
 use Rattle.relay_pipe.specs.Asking.{LeavesLink}
-use Rattle.client.specs.Syncing.Moments.{moment}
+use Rattle.client.specs.Syncing.InOrder.{InOrder, spot}
 use Rattle.client.specs.Syncing.Parties.{party_of, waiting}
-use Rattle.client.specs.Syncing.SoFar.{SoFar, collecting}
+use Rattle.client.specs.Syncing.SoFar.{collecting}
 use Rattle.std.proofs.Common.{◌-◌, ◌≤◌}
 use Rattle.sync_model.specs.declared.limits.TheConstants.{ITEM_LIMIT}
 use Rattle.client.proofs.client.Client.collect_all.Given as goal
 
 abbrev pub invariant-items : goal.invariant-items
 invariant-items g l = record {
-  far : SoFar (party_of g.K.Kem.mechanism l.prefix l.names.own l.names.peers)
-      (moment l.fn.self (g.D.Disk.state l.fn.disk) (g.O.Sink.at l.fn.out))
-      (moment l.self (g.D.Disk.state l.disk) (g.O.Sink.at l.out))
-      (g.L.Pipe.port l.fn.link) (g.L.Pipe.port l.link) (collecting (waiting l.self.kept) l.count);
+  along : InOrder g.D.Disk.state g.L.Pipe.port g.O.Sink.at (party_of g.K.Kem.mechanism l.prefix l.names.own l.names.peers)
+      (spot l.fn.self l.fn.disk l.fn.link l.fn.out) (spot l.self l.disk l.link l.out) (collecting (waiting l.self.kept) l.count);
   within : l.count ≤ ITEM_LIMIT;
   later : (g.O.Sink.at l.fn.out).faults ≤ (g.O.Sink.at l.out).faults;
   link : LeavesLink g.L.Pipe.port g.L.Pipe.behind l.fn.link l.link;

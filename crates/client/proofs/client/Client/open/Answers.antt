@@ -1,18 +1,21 @@
-use Rattle.std.proofs.Common.{Err, List, Ok, Option, Some, ap, subst, sym, ℕ, ◌∙◌, ◌≡◌}
+use Rattle.std.proofs.Common.{Err, List, Ok, Option, Some, ap, inr, subst, sym, ℕ, ◌+◌, ◌∙◌, ◌≡◌}
 use Rattle.boxes.specs.Entries.{Entry}
 use Rattle.boxes.specs.Posts.{Post}
 use Rattle.dr_disk.specs.Calls.{Unwritten}
 use Rattle.dr_disk.specs.Spans.{HavePassed}
 use Rattle.dr_disk.proofs.Steps.{quiet_twice}
 use Rattle.kem_laws.specs.Mechanism.{Mechanism}
+use Rattle.session_model.specs.Clients.{Client}
 use Rattle.session_model.specs.States.{State}
+use Rattle.session_record.specs.Record.{record_text}
 use Rattle.slot_store.specs.Found.{HasReadContent, found_as}
+use Rattle.slot_store.specs.Stops.{calls_of}
 use Rattle.slot_store.specs.Store.{content}
-use Rattle.client.specs.Opening.{IsLeftAtRest, IsUnopened, client_record_fault}
+use Rattle.client.specs.Opening.{IsLeftAtRest, IsUnopened, OpensMigrating, client_record_fault}
 use Rattle.client.specs.declared.refusals.OpenRefusal.TheVariants.{NoSession, StoreFault}
 use Rattle.client.specs.Reading.{HasReadClient}
 use Rattle.client.proofs.Openings.{left_unopened, opens_in, unopened, unopened_in}
-use Rattle.client.proofs.Renewing.{IsRenewed, like_as_read, opening_moments, renewed}
+use Rattle.client.proofs.Renewing.{IsRenewed, like_as_read, migrates_unopened, opening_moments, passed_both, renewed}
 use Rattle.client.proofs.Settled.{still_settled}
 use Rattle.client.proofs.client.Client.open.Given.{Over}
 use Rattle.client.proofs.client.Client.open.Goals.{In-Ok-renew}
@@ -174,3 +177,30 @@ pub client_in-client-requires-clause-read : goal.client_in-client-requires-claus
 client_in-client-requires-clause-read g c = λ text is.
     read_of c.open.new.reader _ g.K.Kem.mechanism (λ r. r.session) (λ r. r.room.inbox) (λ r. r.room.outbox)
     (content c.in-Ok-open.store) text is c.in-Ok-open.ensures.read
+
+pub returns-in-Err-clause-migrates : goal.returns-in-Err-clause-migrates
+returns-in-Err-clause-migrates g c = λ was s text told is old.
+    let k = g.K.Kem.mechanism in
+    subst (λ e. OpensMigrating g.D.Disk.state k text c.args.disk.now c.open.new.disk (Err e)) (sym c.refusal.ensures)
+    (migrates_unopened g.D.Disk.state k text c.args.disk.now c.open.new.disk c.in-Err.error (c.in-Err.ensures.still was).unwritten)
+
+pub returns-in-Ok-renew-clause-migrates : goal.returns-in-Ok-renew-clause-migrates
+returns-in-Ok-renew-clause-migrates g c = λ was s text told is old.
+    let held = (renewed-ok g c).has s text told is in
+    let start = g.D.Disk.state c.args.disk.now in
+    let mid = g.D.Disk.state c.open.new.disk in
+    let now = g.D.Disk.state c.renew.new.disk in
+    subst (λ (kept : Client). HavePassed (1 + calls_of (Some text) (Some (record_text kept))) start now) (sym c.renew.ensures.keeps)
+    (passed_both 1 (calls_of (Some text) (Some (record_text c.client_in-client.result.kept))) start mid now (c.in-Ok-open.ensures.still was).one_sync
+    (c.in-Ok-renew.ensures.migrated text held old))
+
+pub returns-in-Err-renew-clause-migrates : goal.returns-in-Err-renew-clause-migrates
+returns-in-Err-renew-clause-migrates g c = λ was s text told is old.
+    let held = (renewed-err g c).has s text told is in
+    inr (
+      c.open.new.disk,
+      c.client_in-client.result.kept,
+      c.client_in-client.ensures.read text (ap content (sym c.client_in-client.ensures.store) ∙ held),
+      (c.in-Ok-open.ensures.still was).one_sync,
+      c.in-Err-renew.ensures.migrated text held old,
+    )

@@ -1,36 +1,44 @@
-use Rattle.std.proofs.Common.{arith, subst}
+use Rattle.std.proofs.Common.{arith, false, subst, sym, true, ◌∙◌, ◌≡◌}
 use Rattle.relay_wire.specs.Requests.{posts}
 use Rattle.sync_model.specs.Moves.{posting, waits_by}
 use Rattle.sync_model.specs.declared.more.More.TheVariants.{End}
+use Rattle.client.specs.Syncing.InOrder.{InOrder, spot}
 use Rattle.client.specs.Syncing.Moments.{moment}
 use Rattle.client.specs.Syncing.Parties.{party_of, waiting}
 use Rattle.client.specs.Syncing.Rounds.{goes_on, stops}
-use Rattle.client.specs.Syncing.SoFar.{SoFar}
-use Rattle.client.proofs.Syncs.Ending.{goes_round}
-use Rattle.client.proofs.Syncs.Looping.{asks_post, goes_ready, posts_now}
+use Rattle.client.proofs.Syncs.InOrder.{goes_in_order}
+use Rattle.client.proofs.Syncs.Looping.{asks_post, goes_ready, none_left, posts_now}
 use Rattle.client.proofs.Syncs.Oldest.{one_waits}
 use Rattle.client.proofs.Syncs.Requests.{leaves_again, leaves_all}
 use Rattle.client.proofs.client.Client.post_all.Goals as goal
 
 pub returns-in-Err-clause-posts : goal.returns-in-Err-clause-posts
-returns-in-Err-clause-posts g c = λ which first before earlier empty far.
-    goes_round (party_of g.K.Kem.mechanism c.args.prefix.now c.args.names.now.own c.args.names.now.peers) (moment first (g.D.Disk.state before) (g.O.Sink.at empty)) (moment c.packets.self (g.D.Disk.state c.packets.disk) (g.O.Sink.at c.packets.out))
-    (g.L.Pipe.port earlier) (g.L.Pipe.port c.packets.link) (posting which)
-    (subst (SoFar (party_of g.K.Kem.mechanism c.args.prefix.now c.args.names.now.own c.args.names.now.peers) (moment first (g.D.Disk.state before) (g.O.Sink.at empty)) (moment c.packets.self (g.D.Disk.state c.packets.disk) (g.O.Sink.at c.packets.out)) (g.L.Pipe.port earlier) (g.L.Pipe.port c.packets.link))
-    (posts_now (waiting c.packets.self.kept) (one_waits c.packets.self.kept.outbox (c.waits.ensures.0 c.packets-test.true)).0 (one_waits c.packets.self.kept.outbox (c.waits.ensures.0 c.packets-test.true)).1 which) (c.packets.invariant.far which first before earlier empty far))
-    (moment c.post.new.self (g.D.Disk.state c.post.new.disk) (g.O.Sink.at c.post.new.out)) (g.L.Pipe.port c.post.new.link)
-    (record { name = c.args.names.now.peers; ask = posts (one_waits c.packets.self.kept.outbox (c.waits.ensures.0 c.packets-test.true)).0 }) (asks_post (waiting c.packets.self.kept) (one_waits c.packets.self.kept.outbox (c.waits.ensures.0 c.packets-test.true)).0 (one_waits c.packets.self.kept.outbox (c.waits.ensures.0 c.packets-test.true)).1 c.args.names.now.peers)
+returns-in-Err-clause-posts g c = λ which first before earlier empty along.
+    goes_in_order g.D.Disk.state g.L.Pipe.port g.O.Sink.at
+    (party_of g.K.Kem.mechanism c.args.prefix.now c.args.names.now.own c.args.names.now.peers)
+    (spot first before earlier empty) (spot c.packets.self c.packets.disk c.packets.link c.packets.out) (posting which)
+    (subst (InOrder g.D.Disk.state g.L.Pipe.port g.O.Sink.at (party_of g.K.Kem.mechanism c.args.prefix.now c.args.names.now.own c.args.names.now.peers)
+    (spot first before earlier empty) (spot c.packets.self c.packets.disk c.packets.link c.packets.out))
+    (posts_now (waiting c.packets.self.kept) (one_waits c.packets.self.kept.outbox (c.waits.ensures.0 c.packets-test.true)).0 (one_waits c.packets.self.kept.outbox (c.waits.ensures.0 c.packets-test.true)).1 which)
+    (c.packets.invariant.along which first before earlier empty along))
+    (spot c.post.new.self c.post.new.disk c.post.new.link c.post.new.out)
+    (record { name = c.args.names.now.peers; ask = posts (one_waits c.packets.self.kept.outbox (c.waits.ensures.0 c.packets-test.true)).0 })
+    (asks_post (waiting c.packets.self.kept) (one_waits c.packets.self.kept.outbox (c.waits.ensures.0 c.packets-test.true)).0 (one_waits c.packets.self.kept.outbox (c.waits.ensures.0 c.packets-test.true)).1 c.args.names.now.peers)
     (stops c.in-Err.fault) (c.in-Err.ensures.round which (one_waits c.packets.self.kept.outbox (c.waits.ensures.0 c.packets-test.true)).0 (one_waits c.packets.self.kept.outbox (c.waits.ensures.0 c.packets-test.true)).1)
 
 pub packets-preserved : goal.packets-preserved
 packets-preserved g c = record {
-  far = λ which first before earlier empty far.
-      goes_round (party_of g.K.Kem.mechanism c.args.prefix.now c.args.names.now.own c.args.names.now.peers) (moment first (g.D.Disk.state before) (g.O.Sink.at empty)) (moment c.packets.self (g.D.Disk.state c.packets.disk) (g.O.Sink.at c.packets.out))
-      (g.L.Pipe.port earlier) (g.L.Pipe.port c.packets.link) (posting which)
-      (subst (SoFar (party_of g.K.Kem.mechanism c.args.prefix.now c.args.names.now.own c.args.names.now.peers) (moment first (g.D.Disk.state before) (g.O.Sink.at empty)) (moment c.packets.self (g.D.Disk.state c.packets.disk) (g.O.Sink.at c.packets.out)) (g.L.Pipe.port earlier) (g.L.Pipe.port c.packets.link))
-      (posts_now (waiting c.packets.self.kept) (one_waits c.packets.self.kept.outbox (c.waits.ensures.0 c.packets-test.true)).0 (one_waits c.packets.self.kept.outbox (c.waits.ensures.0 c.packets-test.true)).1 which) (c.packets.invariant.far which first before earlier empty far))
-      (moment c.post.new.self (g.D.Disk.state c.post.new.disk) (g.O.Sink.at c.post.new.out)) (g.L.Pipe.port c.post.new.link)
-      (record { name = c.args.names.now.peers; ask = posts (one_waits c.packets.self.kept.outbox (c.waits.ensures.0 c.packets-test.true)).0 }) (asks_post (waiting c.packets.self.kept) (one_waits c.packets.self.kept.outbox (c.waits.ensures.0 c.packets-test.true)).0 (one_waits c.packets.self.kept.outbox (c.waits.ensures.0 c.packets-test.true)).1 c.args.names.now.peers)
+  along = λ which first before earlier empty along.
+      goes_in_order g.D.Disk.state g.L.Pipe.port g.O.Sink.at
+      (party_of g.K.Kem.mechanism c.args.prefix.now c.args.names.now.own c.args.names.now.peers)
+      (spot first before earlier empty) (spot c.packets.self c.packets.disk c.packets.link c.packets.out) (posting which)
+      (subst (InOrder g.D.Disk.state g.L.Pipe.port g.O.Sink.at (party_of g.K.Kem.mechanism c.args.prefix.now c.args.names.now.own c.args.names.now.peers)
+      (spot first before earlier empty) (spot c.packets.self c.packets.disk c.packets.link c.packets.out))
+      (posts_now (waiting c.packets.self.kept) (one_waits c.packets.self.kept.outbox (c.waits.ensures.0 c.packets-test.true)).0 (one_waits c.packets.self.kept.outbox (c.waits.ensures.0 c.packets-test.true)).1 which)
+      (c.packets.invariant.along which first before earlier empty along))
+      (spot c.post.new.self c.post.new.disk c.post.new.link c.post.new.out)
+      (record { name = c.args.names.now.peers; ask = posts (one_waits c.packets.self.kept.outbox (c.waits.ensures.0 c.packets-test.true)).0 })
+      (asks_post (waiting c.packets.self.kept) (one_waits c.packets.self.kept.outbox (c.waits.ensures.0 c.packets-test.true)).0 (one_waits c.packets.self.kept.outbox (c.waits.ensures.0 c.packets-test.true)).1 c.args.names.now.peers)
       (goes_on (waits_by (waiting c.post.new.self.kept) which)) (c.in-Ok.ensures.round which (one_waits c.packets.self.kept.outbox (c.waits.ensures.0 c.packets-test.true)).0 (one_waits c.packets.self.kept.outbox (c.waits.ensures.0 c.packets-test.true)).1);
   ready = goes_ready (party_of g.K.Kem.mechanism c.args.prefix.now c.args.names.now.own c.args.names.now.peers) (posting End) (waits_by (waiting c.post.new.self.kept) End) (record { name = c.args.names.now.peers; ask = posts (one_waits c.packets.self.kept.outbox (c.waits.ensures.0 c.packets-test.true)).0 })
       (moment c.packets.self (g.D.Disk.state c.packets.disk) (g.O.Sink.at c.packets.out))
@@ -40,9 +48,17 @@ packets-preserved g c = record {
   link = leaves_again g.L.Pipe.port g.L.Pipe.behind _ _ _ c.packets.invariant.link c.post.ensures.link;
 }
 
+pub returns-clause-posts : goal.returns-clause-posts
+returns-clause-posts g c = λ which first before earlier empty along.
+    subst (InOrder g.D.Disk.state g.L.Pipe.port g.O.Sink.at
+    (party_of g.K.Kem.mechanism c.args.prefix.now c.args.names.now.own c.args.names.now.peers)
+    (spot first before earlier empty) (spot c.packets.self c.packets.disk c.packets.link c.packets.out))
+    (none_left c.packets.self.kept.outbox (λ some. let e : true ≡ false = sym (c.waits.ensures.1 some) ∙ c.packets-test.false in cc) which)
+    (c.packets.invariant.along which first before earlier empty along)
+
 pub packets-init : goal.packets-init
 packets-init g c = record {
-  far = λ which first before earlier empty far. far;
+  along = λ which first before earlier empty along. along;
   ready = c.requires;
   later = omega arith;
   link = leaves_all g.L.Pipe.port g.L.Pipe.behind c.args.link.now;

@@ -1,8 +1,7 @@
 use Rattle.client.specs.Clients.{ClientNow, IsOpenOn}
 use Rattle.relay_pipe.specs.Asking.{LeavesLink}
-use Rattle.client.specs.Syncing.Moments.{moment}
+use Rattle.client.specs.Syncing.InOrder.{InOrder, spot}
 use Rattle.client.specs.Syncing.Parties.{party_of, waiting}
-use Rattle.client.specs.Syncing.SoFar.{SoFar}
 use Rattle.std.proofs.Common.{length, ◌≤◌}
 use Rattle.sync_model.specs.Moves.{waits_by}
 use Rattle.sync_model.specs.declared.more.More.{More}
@@ -10,15 +9,11 @@ use Rattle.client.proofs.client.Client.post_all.Given as goal
 
 abbrev pub invariant-packets : goal.invariant-packets
 invariant-packets g l = record {
-  far : (which : More) (first : ClientNow) (before : _) (earlier : _) (empty : _)
-      → SoFar (party_of g.K.Kem.mechanism l.prefix l.names.own l.names.peers)
-      (moment first (g.D.Disk.state before) (g.O.Sink.at empty))
-      (moment l.fn.self (g.D.Disk.state l.fn.disk) (g.O.Sink.at l.fn.out))
-      (g.L.Pipe.port earlier) (g.L.Pipe.port l.fn.link) (waits_by (waiting l.fn.self.kept) which)
-      → SoFar (party_of g.K.Kem.mechanism l.prefix l.names.own l.names.peers)
-      (moment first (g.D.Disk.state before) (g.O.Sink.at empty))
-      (moment l.self (g.D.Disk.state l.disk) (g.O.Sink.at l.out))
-      (g.L.Pipe.port earlier) (g.L.Pipe.port l.link) (waits_by (waiting l.self.kept) which);
+  along : (which : More) (first : ClientNow) (before : _) (earlier : _) (empty : _)
+      → InOrder g.D.Disk.state g.L.Pipe.port g.O.Sink.at (party_of g.K.Kem.mechanism l.prefix l.names.own l.names.peers)
+      (spot first before earlier empty) (spot l.fn.self l.fn.disk l.fn.link l.fn.out) (waits_by (waiting l.fn.self.kept) which)
+      → InOrder g.D.Disk.state g.L.Pipe.port g.O.Sink.at (party_of g.K.Kem.mechanism l.prefix l.names.own l.names.peers)
+      (spot first before earlier empty) (spot l.self l.disk l.link l.out) (waits_by (waiting l.self.kept) which);
   ready : IsOpenOn l.self (g.D.Disk.state l.disk);
   later : (g.O.Sink.at l.fn.out).faults ≤ (g.O.Sink.at l.out).faults;
   link : LeavesLink g.L.Pipe.port g.L.Pipe.behind l.fn.link l.link;

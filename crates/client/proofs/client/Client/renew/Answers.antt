@@ -1,10 +1,12 @@
-use Rattle.std.proofs.Common.{OnOk, Some, ap, arith, rules, subst, sym, take, true, ◌∙◌, ◌≡◌}
+use Rattle.std.proofs.Common.{OnOk, Some, ap, arith, false, rules, subst, sym, take, true, ◌∙◌, ◌≡◌}
 use Rattle.std.proofs.lemmas.List.{with_items_is}
+use Rattle.session_record.specs.Record.{record_text}
 use Rattle.session_record.specs.Versions.{is_newest}
 use Rattle.slot_store.specs.Kept.{content_or_empty}
 use Rattle.slot_store.specs.Store.{content}
 use Rattle.client.specs.Clients.{ClientNow, IsReady, client_area}
-use Rattle.client.proofs.Renewing.{newest_holds}
+use Rattle.client.specs.Opening.{IsMigrated}
+use Rattle.client.proofs.Renewing.{migrated_calls, migration_stopped, newest_holds}
 use Rattle.client.proofs.client.Client.renew.Goals.{in-Ok, in-Err}
 use Rattle.client.proofs.client.Client.renew.Goals as goal
 
@@ -38,4 +40,31 @@ returns-clause-ready g c =
             rests = λ f left. (w.in-Ok.ensures.done f left).0;
           })
       | in-Err w ↦ search rules
+    ]
+
+pub returns-then-is_newest-clause-migrated : goal.returns-then-is_newest-clause-migrated
+returns-then-is_newest-clause-migrated g c = λ text has old.
+    let is = subst (λ (n : ClientNow). c.content-text.result.now ≡ content_or_empty (content n.store)) c.self.view_is c.content-text.ensures in
+    let same : c.content-text.result.now ≡ text = is ∙ ap content_or_empty has in
+    let newest : is_newest text ≡ true = subst (λ t. is_newest t ≡ true) same (sym c.is_newest.ensures ∙ c.if-is_newest.true) in
+    absurd (let e : true ≡ false = sym newest ∙ old in cc)
+
+pub returns-clause-migrated : goal.returns-clause-migrated
+returns-clause-migrated g c = λ text has old.
+    let start = g.D.Disk.state c.args.disk.now in
+    let now = g.D.Disk.state c.replace.new.disk in
+    let client : ClientNow = c.args.self.now in
+    let area = subst (λ (n : ClientNow). n.store.area ≡ client_area) (sym c.self.view_is) c.requires.area in
+    let held = subst (λ (n : ClientNow). content n.store ≡ Some text) (sym c.self.view_is) has in
+    let written = ap (λ l. take c.encode_now-len.result l) (with_items_is c.lengthen.new.room c.encode_now-len.new.out
+    (c.encode_now-len.auto.out ∙ c.deref_mut.ensures.len)) ∙ c.encode_now-len.ensures.written
+    ∙ ap (λ (n : ClientNow). record_text n.kept) c.self.view_is in
+    elim c.match-replace.branch [
+      | in-Ok w ↦
+          subst (IsMigrated text client.kept start now) (sym w.result-is)
+          (migrated_calls text client.kept (content c.self.inside.store) _ held written start now w.in-Ok.ensures.calls.passed)
+      | in-Err w ↦
+          subst (IsMigrated text client.kept start now) (sym w.result-is)
+          (migration_stopped text client.kept (content c.self.inside.store) _ held written start now c.self.inside.store.area area w.in-Err.fault.call
+          w.in-Err.ensures.replaces.stopped w.in-Err.ensures.calls.few w.in-Err.ensures.kind)
     ]

@@ -59,6 +59,9 @@ returns-in-Some-clause-closed g c = λ call is.
 pub returns-in-Some-clause-exact : goal.returns-in-Some-clause-exact
 returns-in-Some-clause-exact g c = λ is_open. absurd (not_both c.in-Some.call (ap (λ (n : ClientNow). n.closed) (sym c.self.view_is) ∙ c.in-Some.is) is_open)
 
+pub returns-in-Some-clause-in_order : goal.returns-in-Some-clause-in_order
+returns-in-Some-clause-in_order g c = λ is_open. absurd (not_both c.in-Some.call (ap (λ (n : ClientNow). n.closed) (sym c.self.view_is) ∙ c.in-Some.is) is_open)
+
 pub returns-in-Some-clause-in_worlds : goal.returns-in-Some-clause-in_worlds
 returns-in-Some-clause-in_worlds g c = λ w side replies is_in syncs fair. absurd syncs.ends
 

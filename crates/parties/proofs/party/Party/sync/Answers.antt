@@ -31,7 +31,7 @@ returns-clause-writes g c =
     Plays p (scene p (kept_before c.args.lost) client boxes) before after (boxes_now c.meet.new.link) result in
     let met : Met (side_text side) c.args.self.now.kept c.meet.result =
     subst (λ (x : Client). Met (side_text side) x c.meet.result) (ap (λ (p : PartyNow). p.kept) c.self.view_is)
-    (subst (λ (b : List ℕ). Met b c.self.inside.client.kept c.meet.result) c.side_prefix.ensures.name c.meet.ensures) in
+    (subst (λ (b : List ℕ). Met b c.self.inside.client.kept c.meet.result) c.side_prefix.ensures.name c.meet.ensures.plays) in
     let p = client_party k (side_text side) c.args.self.now.kept in
     let m = scene p (kept_before c.args.lost) c.args.self.now.kept boxes in
     elim c.match-meet.branch [

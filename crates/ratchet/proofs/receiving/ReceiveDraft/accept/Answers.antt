@@ -19,6 +19,6 @@ invariant_of-part g c =
     ≡ seen c.self.inside.head (kept_in c.part.inside.kept table) =
     ap₂ (λ (h : State) (keys : List Kept). record h { kept = keys }) c.copy_from.ensures c.settle.ensures in
     subst (IsLawfulState k) (sym copied)
-    (lawful_received k s _ _ (seen c.self.inside.head []) table c.part.invariant c.self.invariant.1
+    (lawful_received k s _ _ _ (seen c.self.inside.head []) table c.part.invariant c.self.invariant.1
     (subst (λ (d : Received). IsReceiveDraft k s (received_of s d)) (sym c.self.view_is)
     (subst (λ (t : State). IsReceiveDraft k t (received_of t c.args.self)) (sym whole) c.requires)))

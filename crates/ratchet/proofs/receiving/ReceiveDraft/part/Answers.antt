@@ -16,6 +16,6 @@ invariant_of-result g c =
     let table : Option (List Kept) = option_map (λ t. t.now) c.self.inside.table in
     let whole : s ≡ c.args.session.now = c.part.view_is ∙ c.session.view_is in
     subst (λ (keys : List Kept). IsLawfulState k (seen c.self.inside.head keys)) (sym c.kept_in.ensures)
-    (lawful_received k s _ _ (seen c.self.inside.head []) table c.part.invariant c.self.invariant.1
+    (lawful_received k s _ _ _ (seen c.self.inside.head []) table c.part.invariant c.self.invariant.1
     (subst (λ (d : Received). IsReceiveDraft k s (received_of s d)) (sym c.self.view_is)
     (subst (λ (t : State). IsReceiveDraft k t (received_of t c.args.self.now)) (sym whole) c.requires)))

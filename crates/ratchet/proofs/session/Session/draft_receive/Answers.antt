@@ -24,10 +24,10 @@ returns-in-Ok-open_text-clause-exact g c =
     let at : ℕ → ℕ → Position = λ e i. record { epoch = e; index = i } in
     let next = λ (s : State). seen c.find_key.new.next (kept_in s.kept c.find_key.new.table) in
     let make : Position → Body → State → Result ReceiveDraft Refusal =
-    λ p body s. Ok (received p body.content (record s { awaiting = still_waiting body.receipt s.awaiting })) in
-    ap (λ table. Ok (received (at c.epoch.result c.index.result) told.content
+    λ p body s. Ok (received p body (record s { awaiting = still_waiting body.receipt s.awaiting })) in
+    ap (λ table. Ok (received (at c.epoch.result c.index.result) told
     (record (seen c.find_key.new.next (kept_in c.args.self.now.kept table)) { awaiting = c.obey.new.self }))) c.changed-draft-inside.ensures
-    ∙ ap (λ (list : List Position). Ok (received (at c.epoch.result c.index.result) told.content
+    ∙ ap (λ (list : List Position). Ok (received (at c.epoch.result c.index.result) told
     (record (next c.args.self.now) { awaiting = list }))) c.obey.ensures
     ∙ ap (λ (s : State). make (at c.epoch.result c.index.result) told (next s)) (sym c.self.view_is)
     ∙ ap₂ (λ e i. make (at e i) told (next c.self.inside.part)) c.epoch.ensures.value c.index.ensures.value

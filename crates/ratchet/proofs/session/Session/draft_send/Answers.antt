@@ -1,6 +1,6 @@
 use Rattle.std.proofs.Common.{Option, [], ap, subst, sym, ◌∙◌, ◌≡◌}
 use Rattle.bodies.specs.Receipts.{Receipt}
-use Rattle.bodies.specs.declared.limits.TheConstants.{TEXT_KIND}
+use Rattle.boxes.specs.declared.kinds.TheConstants.{TEXT_KIND}
 use Rattle.session_model.proofs.Sealed.{HasFewListed, few_listed}
 use Rattle.session_model.specs.Saying.{receipt_in}
 use Rattle.session_model.specs.States.{State}

@@ -1,7 +1,6 @@
 use Rattle.std.proofs.Common.{refl, subst, sym, ◌∙◌, ℕ}
 use Rattle.dr_ports.specs.Ports.{Rose}
 use Rattle.dr_ports.specs.declared.pipe.Part.TheVariants.{Flow}
-use Rattle.relay_core.specs.Record.{box_text}
 use Rattle.relay_server.proofs.Rounds.{came_part, pulled_part}
 use Rattle.relay_server.proofs.durable.DurableBoxes.round.Goals as goal
 
@@ -22,7 +21,7 @@ returns-in-Err-send_all-clause-rounds g c =
       c.pull.new.reader.bytes,
       part.beginning,
       part.remainder,
-      came_part box_text c.args.reader.now c.pull.new.reader part.beginning c.args.self.now.boxes c.answer_next.new.self.boxes
+      came_part c.args.reader.now c.pull.new.reader part.beginning c.args.self.now.boxes c.answer_next.new.self.boxes
           (g.P.Pipe.port c.args.pipe.now) (g.P.Pipe.port c.pull.new.pipe) (g.P.Pipe.port c.send_all.new.pipe)
           (g.D.Disk.state c.args.disk.now) (g.D.Disk.state c.answer_next.new.disk) c.requires.fresh pulls.0 pulls.1 part.took c.answer_next.ensures.answers.next c.answer_next.ensures.answers.leaves.any_moment,
       sym c.in-Ok.ensures.answers.reply.reply ∙ part.split,

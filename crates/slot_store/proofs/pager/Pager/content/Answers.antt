@@ -1,5 +1,5 @@
 use Rattle.std.proofs.Common.{sym, ◌∙◌}
-use Rattle.slot_store.proofs.Contents.{text_is}
+use Rattle.slot_store.proofs.Puts.Contents.{text_is}
 use Rattle.slot_store.proofs.pager.Pager.content.Goals as goal
 
 pub returns : goal.returns

@@ -1,12 +1,13 @@
 use Rattle.std.proofs.Common.{arith, refl, take}
-use Rattle.slot_store.proofs.PutCalls.{IsCall, came_here, done_here, enough_free, failed_here, passed_here, reads_here, stopped_here, to_write_here, whole_here}
-use Rattle.slot_store.proofs.Standing.{held_fits}
+use Rattle.slot_store.proofs.Puts.PutCalls.{IsCall, came_here, done_here, enough_free, failed_here, passed_here, reads_here, stopped_here, to_write_here, whole_here}
+use Rattle.paged_records.proofs.Texts.{held_fits}
+use Rattle.slot_store.specs.Areas.{bounds_of}
 use Rattle.slot_store.proofs.pager.Pager.put.Goals as goal
 
 pub slice_bounds-fresh-end : goal.slice_bounds-fresh-end
 slice_bounds-fresh-end g c =
     enough_free c.args.self.now c.stage.new.self (take c.args.len c.args.text.now.items) c.len.result c.deref.result.now
-    c.stage.ensures.staged (held_fits c.args.self.now.area c.args.text.now c.args.len c.requires.text)
+    c.stage.ensures.staged (held_fits (bounds_of c.args.self.now.area) c.args.text.now c.args.len c.requires.text)
     (omega (arith, c.len.ensures, c.stage.new.self.draft.plan.places.ok.0)) c.deref.ensures.value
 
 pub put-requires-clause-writes : goal.put-requires-clause-writes
@@ -16,7 +17,7 @@ put-requires-clause-writes g c =
     c.deref-2.result.now c.deref-3.result.now c.deref-4.result.now = record {
       set = record {
         staged = c.stage.ensures.staged;
-        fits = held_fits c.args.self.now.area c.args.text.now c.args.len c.requires.text;
+        fits = held_fits (bounds_of c.args.self.now.area) c.args.text.now c.args.len c.requires.text;
         ends = omega (arith, c.size-size.ensures, c.size-size.type_inv);
         within = c.requires.within;
         lawful = g.met.D.Disk.lawful c.args.disk.now;
@@ -38,7 +39,7 @@ returns-in-Ok-clause-replaces g c =
     c.deref-2.result.now c.deref-3.result.now c.deref-4.result.now = record {
       set = record {
         staged = c.stage.ensures.staged;
-        fits = held_fits c.args.self.now.area c.args.text.now c.args.len c.requires.text;
+        fits = held_fits (bounds_of c.args.self.now.area) c.args.text.now c.args.len c.requires.text;
         ends = omega (arith, c.size-size.ensures, c.size-size.type_inv);
         within = c.requires.within;
         lawful = g.met.D.Disk.lawful c.args.disk.now;
@@ -64,7 +65,7 @@ returns-in-Ok-clause-done g c =
     c.deref-2.result.now c.deref-3.result.now c.deref-4.result.now = record {
       set = record {
         staged = c.stage.ensures.staged;
-        fits = held_fits c.args.self.now.area c.args.text.now c.args.len c.requires.text;
+        fits = held_fits (bounds_of c.args.self.now.area) c.args.text.now c.args.len c.requires.text;
         ends = omega (arith, c.size-size.ensures, c.size-size.type_inv);
         within = c.requires.within;
         lawful = g.met.D.Disk.lawful c.args.disk.now;
@@ -86,7 +87,7 @@ returns-in-Ok-clause-calls g c =
     c.deref-2.result.now c.deref-3.result.now c.deref-4.result.now = record {
       set = record {
         staged = c.stage.ensures.staged;
-        fits = held_fits c.args.self.now.area c.args.text.now c.args.len c.requires.text;
+        fits = held_fits (bounds_of c.args.self.now.area) c.args.text.now c.args.len c.requires.text;
         ends = omega (arith, c.size-size.ensures, c.size-size.type_inv);
         within = c.requires.within;
         lawful = g.met.D.Disk.lawful c.args.disk.now;
@@ -108,7 +109,7 @@ returns-in-Err-clause-replaces g c =
     c.deref-2.result.now c.deref-3.result.now c.deref-4.result.now = record {
       set = record {
         staged = c.stage.ensures.staged;
-        fits = held_fits c.args.self.now.area c.args.text.now c.args.len c.requires.text;
+        fits = held_fits (bounds_of c.args.self.now.area) c.args.text.now c.args.len c.requires.text;
         ends = omega (arith, c.size-size.ensures, c.size-size.type_inv);
         within = c.requires.within;
         lawful = g.met.D.Disk.lawful c.args.disk.now;
@@ -135,7 +136,7 @@ returns-in-Err-clause-calls g c =
     c.deref-2.result.now c.deref-3.result.now c.deref-4.result.now = record {
       set = record {
         staged = c.stage.ensures.staged;
-        fits = held_fits c.args.self.now.area c.args.text.now c.args.len c.requires.text;
+        fits = held_fits (bounds_of c.args.self.now.area) c.args.text.now c.args.len c.requires.text;
         ends = omega (arith, c.size-size.ensures, c.size-size.type_inv);
         within = c.requires.within;
         lawful = g.met.D.Disk.lawful c.args.disk.now;
@@ -158,7 +159,7 @@ returns-in-Err-clause-kind g c =
     c.deref-2.result.now c.deref-3.result.now c.deref-4.result.now = record {
       set = record {
         staged = c.stage.ensures.staged;
-        fits = held_fits c.args.self.now.area c.args.text.now c.args.len c.requires.text;
+        fits = held_fits (bounds_of c.args.self.now.area) c.args.text.now c.args.len c.requires.text;
         ends = omega (arith, c.size-size.ensures, c.size-size.type_inv);
         within = c.requires.within;
         lawful = g.met.D.Disk.lawful c.args.disk.now;

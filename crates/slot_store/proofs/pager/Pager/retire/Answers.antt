@@ -2,8 +2,8 @@ use Rattle.std.proofs.Common.{ℕ, ◌-◌, List, ap, arith, refl, take}
 use Rattle.dr_base.specs.declared.limits.TheConstants.{PAGE}
 use Rattle.dr_disk.proofs.Calling.{none_made}
 use Rattle.slot_store.specs.Putting.{call_of}
-use Rattle.slot_store.proofs.Retiring.{alone}
-use Rattle.slot_store.proofs.RetireCalls.{came_retired, done_here, failed_here, free_here, newest_here, no_calls, passed_here, reads_here, whole_here, zeros_here}
+use Rattle.slot_store.proofs.Puts.Retiring.{alone}
+use Rattle.slot_store.proofs.Puts.RetireCalls.{came_retired, done_here, failed_here, free_here, newest_here, no_calls, passed_here, reads_here, whole_here, zeros_here}
 use Rattle.slot_store.proofs.pager.Pager.retire.Goals as goal
 
 pub returns-then-not-self-clause-at_rest : goal.returns-then-not-self-clause-at_rest

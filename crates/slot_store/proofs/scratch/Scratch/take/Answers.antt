@@ -6,6 +6,6 @@ pub returns : goal.returns
 returns c = record {
   first_long = omega (arith, c.in_ok-vec.ensures.len, c.in_ok-vec.field-0.ok.0);
   second_long = omega (arith, c.in_ok-vec-2.ensures.len, c.in_ok-vec-2.field-0.ok.0);
-  page_long = omega (arith, c.in_ok-vec-3.ensures.len, c.in_ok-vec-3.field-0.ok.0);
+  room_long = omega (arith, c.in_ok-vec-3.ensures.len, c.in_ok-vec-3.field-0.ok.0);
   marks = grind (arith, common_steps);
 }

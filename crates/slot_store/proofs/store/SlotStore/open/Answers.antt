@@ -8,7 +8,7 @@ use Rattle.slot_store.specs.AtRest.{IsLeft}
 use Rattle.slot_store.specs.Found.{HasReadContent}
 use Rattle.slot_store.specs.Opened.{IsOpened, IsRefused}
 use Rattle.slot_store.specs.Store.{content}
-use Rattle.slot_store.proofs.Answered.{answered_ahead, answered_fate, answered_memory, answered_moment, answered_opened, answered_quiet, answered_read, answered_reads, answered_refused, answered_still, refused_by}
+use Rattle.slot_store.proofs.Openings.Answered.{answered_ahead, answered_fate, answered_memory, answered_moment, answered_opened, answered_quiet, answered_read, answered_reads, answered_refused, answered_still, refused_by}
 use Rattle.slot_store.proofs.store.SlotStore.open.Goals as goal
 
 pub returns-in-Err-clause-refused : goal.returns-in-Err-clause-refused

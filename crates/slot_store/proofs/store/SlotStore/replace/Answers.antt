@@ -9,9 +9,11 @@ use Rattle.slot_store.specs.Putting.{HasReplaced, IsNext, call_of, retire_calls}
 use Rattle.pages.specs.Runs.{CameNext}
 use Rattle.slot_store.specs.Stops.{IsStopped, call_after, calls_of, putting}
 use Rattle.slot_store.specs.Store.{IsOldOrNew, ReadsOutsideArea, Rests, SlotStore}
-use Rattle.slot_store.proofs.NextCalls.{came_in_put, came_in_retire}
-use Rattle.slot_store.proofs.Replacing.{counted, reads_both, replace_done, replace_stopped, replace_whole}
-use Rattle.slot_store.proofs.Standing.{held_fits, laid_as_seen}
+use Rattle.slot_store.proofs.Puts.NextCalls.{came_in_put, came_in_retire}
+use Rattle.slot_store.proofs.Puts.Replacing.{counted, reads_both, replace_done, replace_stopped, replace_whole}
+use Rattle.paged_records.proofs.Texts.{held_fits}
+use Rattle.slot_store.specs.Areas.{bounds_of}
+use Rattle.slot_store.proofs.Standing.{laid_as_seen}
 use Rattle.slot_store.proofs.store.SlotStore.replace.Goals as goal
 
 pub put-requires-clause-text : goal.put-requires-clause-text
@@ -29,7 +31,7 @@ returns-in-Err g c =
     let text = take c.args.len c.args.text.now.items in
     let start = g.D.Disk.state c.args.disk.now in
     let mid = g.D.Disk.state c.put.new.disk in
-    let fits = held_fits old.area c.args.text.now c.args.len
+    let fits = held_fits (bounds_of old.area) c.args.text.now c.args.len
     (subst (λ (s : SlotStore). HasText s.area c.args.text.now c.args.len) (sym c.self.view_is) c.requires.text) in
     record {
       replaces = record {
@@ -61,7 +63,7 @@ returns-in-Err-retire g c =
     let end = g.D.Disk.state c.retire.new.disk in
     let staged = c.put.ensures.staged in
     let done = c.in-Ok.ensures.done in
-    let fits = held_fits old.area c.args.text.now c.args.len
+    let fits = held_fits (bounds_of old.area) c.args.text.now c.args.len
     (subst (λ (s : SlotStore). HasText s.area c.args.text.now c.args.len) (sym c.self.view_is) c.requires.text) in
     record {
       replaces = record {
@@ -98,7 +100,7 @@ returns g c =
     let end = g.D.Disk.state c.retire.new.disk in
     let staged = c.put.ensures.staged in
     let done = c.in-Ok.ensures.done in
-    let fits = held_fits old.area c.args.text.now c.args.len
+    let fits = held_fits (bounds_of old.area) c.args.text.now c.args.len
     (subst (λ (s : SlotStore). HasText s.area c.args.text.now c.args.len) (sym c.self.view_is) c.requires.text) in
     record {
       replaces = record {

@@ -27,7 +27,7 @@ returns-in-Received g c =
     let k = g.K.Kem.mechanism in
     let kept = client_of c.self.inside.session c.self.inside.inbox c.self.inside.outbox in
     let part = c.part-in-Received.result in
-    let change = TakesText c.position.result c.text.result in
+    let change = TakesText c.position.result c.kind.result c.text.result in
     let of =
     subst (IsDraftOf k kept) c.in-Received.is
     (subst (λ (n : Client). IsDraftOf k n c.args.draft.now) (sym c.self.view_is) c.requires) in
@@ -36,6 +36,6 @@ returns-in-Received g c =
       inbox = (of.room, c.text.ensures.fits);
       outbox = tt;
       same =
-          received_record kept c.in-Received.received part c.position.result c.text.result.now
-          c.part-in-Received.ensures c.position.ensures c.text.ensures.value;
+          received_record kept c.in-Received.received part c.position.result c.kind.result c.text.result.now
+          c.part-in-Received.ensures c.position.ensures c.kind.ensures c.text.ensures.value;
     }))

@@ -1,0 +1,10 @@
+pub mod Limits
+pub mod Layout
+pub mod Rows
+pub mod Desk
+pub mod Shown
+pub mod Judging
+pub mod Marks
+pub mod Kept
+pub mod Reading
+pub mod AtRest

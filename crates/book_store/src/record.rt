@@ -1,0 +1,162 @@
+//! A row's record: its change is planned in memory, and staged.
+
+ghost use Rattle.std.specs.Prelude.{◌≡◌, ◌≢◌, ◌≤◌, ◌<◌, ℕ, All, List, OnOk, length, take, vec_capacity};
+ghost use Rattle.dr_disk.specs.declared.call.Call.TheVariants.{Write};
+ghost use Rattle.pages.specs.Layouts.{IsSound};
+ghost use Rattle.pages.specs.Runs.{Makes, only};
+ghost use Rattle.pages.specs.Snapshots.{Snapshot};
+ghost use Rattle.pages.specs.Writing.{AreBeside, AreUnnamed, Stages};
+ghost use Rattle.record_pages.specs.Pages.{pages_in};
+ghost use Rattle.record_pages.specs.Plans.{changed_places, dropped, numbered};
+ghost use Rattle.paged_records.specs.Bounded.{HasRecordMemory, HasText};
+ghost use Rattle.paged_records.specs.Memory.{HasPlanRoom};
+ghost use Rattle.book_store.specs.Desk.{StandsStaged, holding};
+ghost use Rattle.book_store.specs.Kept.{IsRowRecord, free_of_row, row_bounds, row_free, row_fresh, row_writes, text_of};
+ghost use Rattle.book_store.specs.Layout.{book_layout};
+ghost use Rattle.book_store.specs.Rows.{book_names, row_in, row_names, row_text, shifted};
+ghost use Rattle.relay_wire.specs.declared.limits.TheConstants.{NAME_LIMIT};
+ghost use Rattle.book_store.specs.declared.layout.TheConstants.{BOOK_ROWS, ROW_PAGES};
+
+use crate::desk::Desk;
+use crate::layout::{ROW_MOST, ROW_PAGES};
+use dr_disk::{Call, Disk};
+use paged_records::{Bounds, Draft, Kept, replan};
+
+/// Which of its pages a row's record may have.
+fn row_bounds() -> Bounds
+    ensures { result ≡ row_bounds }
+{
+    Bounds {
+        least: 0,
+        count: ROW_PAGES,
+        most: ROW_MOST,
+    }
+}
+
+/// Takes down numbers of a row's pages as those of the book.
+fn shift(row: usize, numbers: &[u32], out: &mut Vec<u32>)
+    requires row { row < BOOK_ROWS }
+    requires own { All (λ n. n < ROW_PAGES) numbers.now }
+    requires room { length numbers.now ≤ vec_capacity out.old }
+    ensures shifted { out.new.items ≡ shifted row numbers.now }
+    ensures room { vec_capacity out.old ≤ vec_capacity out.new }
+{
+    out.clear();
+    'numbers: for i in 0..numbers.len() {
+        out.push(ROW_PAGES * row as u32 + numbers[i]).unwrap();
+    }
+}
+
+/// Puts a text in place of a row's record in memory, and plans what of it is written, to which of
+/// the book's pages, and what is wiped.
+fn plan_row(
+    row: usize,
+    kept: &mut Kept,
+    draft: &mut Draft,
+    fresh: &mut Vec<u32>,
+    text: &mut Vec<u8>,
+    len: usize,
+)
+    requires row { row < BOOK_ROWS }
+    requires text { HasText row_bounds text.old len }
+    requires record { IsRowRecord kept.old }
+    requires plan { HasPlanRoom row_bounds draft.old }
+    requires fresh { ROW_PAGES ≤ vec_capacity fresh.old }
+
+    // The record in memory.
+    ensures len { kept.new.len ≡ len }
+    ensures text { text_of kept.new ≡ take len text.old.items }
+    ensures numbers { kept.new.numbers.items
+        ≡ numbered (pages_in (text_of kept.old)) kept.old.numbers.items
+        (pages_in (take len text.old.items)) (free_of_row kept.old.numbers.items) }
+    ensures record { IsRowRecord kept.new }
+    ensures room { HasRecordMemory row_bounds text.new }
+
+    // The plan.
+    ensures places { draft.new.plan.places.items
+        ≡ changed_places 0 (pages_in (text_of kept.old)) (pages_in (take len text.old.items)) }
+    ensures fresh { fresh.new.items ≡ row_fresh row kept.old (take len text.old.items) }
+    ensures dropped { draft.new.plan.dropped.items
+        ≡ dropped (pages_in (text_of kept.old)) kept.old.numbers.items
+        (pages_in (take len text.old.items)) }
+    ensures plan { HasPlanRoom row_bounds draft.new }
+    ensures fresh_room { ROW_PAGES ≤ vec_capacity fresh.new }
+{
+    replan(row_bounds(), kept, draft, text, len);
+    let count = draft.plan.places.len();
+    shift(row, &draft.free[..count], fresh);
+}
+
+/// Puts a text in place of a row's record: what of it changes is written to pages of the row that no
+/// open table names, and the row goes into the table to come.
+pub(crate) fn stage_record<D: Disk>(
+    desk: &mut Desk,
+    disk: &mut D,
+    row: usize,
+    name: &[u8],
+    kept: &mut Kept,
+    draft: &mut Draft,
+    fresh: &mut Vec<u32>,
+    text: &mut Vec<u8>,
+    len: usize,
+) -> Result<(), Call>
+    requires row { row < desk.old.rows }
+    requires named { length name.now ≤ NAME_LIMIT }
+    requires text { HasText row_bounds text.old len }
+    requires record { IsRowRecord kept.old }
+    requires plan { HasPlanRoom row_bounds draft.old }
+    requires fresh { ROW_PAGES ≤ vec_capacity fresh.old }
+    requires sound { IsSound (book_layout desk.old.rows) (D.state disk.old).size }
+    requires free { AreUnnamed book_names (book_layout desk.old.rows) (row_free row kept.old)
+        (D.state disk.old) }
+
+    // The disk, and the table to come.
+    ensures staged { (was : Snapshot) (held : ℕ → List (List ℕ))
+        → StandsStaged desk.old.rows desk.old.second desk.old.turn desk.old.body.items was held
+        (D.state disk.old)
+        → AreBeside book_names (book_layout desk.old.rows) (row_free row kept.old) was
+        → row_names (row_in desk.old.body.items row) ≡ kept.old.numbers.items
+        → held row ≡ pages_in (text_of kept.old)
+        → OnOk result (StandsStaged desk.new.rows desk.new.second desk.new.turn
+        desk.new.body.items was (holding held row (pages_in (take len text.old.items)))
+        (D.state disk.new)) }
+    ensures this { OnOk result (row_in desk.new.body.items row
+        ≡ row_text name.now len kept.new.numbers.items) }
+    ensures others { (r : ℕ) → r ≢ row
+        → row_in desk.new.body.items r ≡ row_in desk.old.body.items r }
+    ensures rows { desk.new.rows ≡ desk.old.rows }
+    ensures second { desk.new.second ≡ desk.old.second }
+    ensures turn { desk.new.turn ≡ desk.old.turn }
+
+    // What was written.
+    ensures stages { Stages book_names (book_layout desk.old.rows)
+        (row_fresh row kept.old (take len text.old.items)) (D.state disk.old) (D.state disk.new) }
+    ensures makes { Makes (row_writes kept.old (take len text.old.items)) (only Write)
+        (D.state disk.old) (D.state disk.new) result }
+
+    // The record in memory.
+    ensures text { text_of kept.new ≡ take len text.old.items }
+    ensures numbers { kept.new.numbers.items
+        ≡ numbered (pages_in (text_of kept.old)) kept.old.numbers.items
+        (pages_in (take len text.old.items)) (free_of_row kept.old.numbers.items) }
+    ensures dropped { draft.new.plan.dropped.items
+        ≡ dropped (pages_in (text_of kept.old)) kept.old.numbers.items
+        (pages_in (take len text.old.items)) }
+    ensures record { IsRowRecord kept.new }
+    ensures plan { HasPlanRoom row_bounds draft.new }
+    ensures fresh { ROW_PAGES ≤ vec_capacity fresh.new }
+    ensures room { HasRecordMemory row_bounds text.new }
+{
+    plan_row(row, kept, draft, fresh, text, len);
+    let kept = &*kept;
+    desk.stage(
+        disk,
+        row,
+        name,
+        len as u32,
+        &kept.numbers,
+        fresh,
+        &draft.plan.places,
+        &kept.bytes,
+    )
+}

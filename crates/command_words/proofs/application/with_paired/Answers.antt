@@ -1,6 +1,0 @@
-use Rattle.command_words.proofs.application.with_paired.Goals as goal
-
-pub returns : goal.returns
-returns c app made =
-    let one = c.wanting-one.ensures.shape _ c.new.ensures.app in
-    c.joined.ensures _ (c.wanting-two.ensures.shape _ one) app made

@@ -1,0 +1,8 @@
+-- How the disk over a file reads and fills, as numbers.
+use Rattle.std.specs.Prelude.{◌≡◌}
+use Rattle.file_disk.specs.declared.own_file.TheConstants.{PIECE, TRIES}
+
+-- bytes that are filled with zeros at once; how often a read is tried that a signal interrupts
+pub record HasLimits : Type 0 where
+  pub piece : PIECE ≡ 4096
+  pub tries : TRIES ≡ 1000

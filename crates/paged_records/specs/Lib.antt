@@ -1,0 +1,4 @@
+pub mod Bounded
+pub mod Memory
+pub mod Faults
+pub mod Loading

@@ -1,0 +1,13 @@
+pub mod HasPlan
+pub mod PlanFacts
+pub mod PutShots
+pub mod Putting
+pub mod PutDone
+pub mod Stopping
+pub mod PutCalls
+pub mod Retiring
+pub mod RetireCalls
+pub mod Replacing
+pub mod NextCalls
+pub mod Contents
+pub mod AreaBounds
