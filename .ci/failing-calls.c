@@ -1,14 +1,15 @@
 // Makes one call of a program on a file, a socket or the random source fail, or cuts it short. It is loaded before the C
 // library. FAILING_CALL is the number of the call, from 1, and FAILING_NAME its name, if only a call of this name is to fail;
-// FAILING_HOW an error's number, or 0 for half of the bytes and at most 100, -1 for one byte, -2 for none; and to the file
-// FAILING_LOG goes a line for each call, with its name and its descriptor. Where FAILING_MORE is set, calls that open, connect,
-// wait, set and close are among them. Or it refuses memory, where FAILING_ALLOCATION is set: to the allocation of this number,
-// from 1 and since the program's beginning, and where it is negative to those that follow too. Then each allocation has a line
-// in the log, with its name, its size, and whether the program asks for it or a library. Where FAILING_DURABLE names a folder,
-// it has there of each file that is synced what a power cut would leave: a sync that passes brings what was written since, and
-// one that fails loses it, as a system does that forgets what it couldn't write. FAILING_ORDER gets a line for each write at a
-// place, with place and length, and each sync. It has no headers, as a compiler of the kit has none: what it needs of the C
-// library of Linux is declared here.
+// FAILING_TIMES how many calls fail from this one on, if more than one; FAILING_HOW an error's number, or 0 for half of the
+// bytes and at most 100, -1 for one byte, -2 for none; and to the file FAILING_LOG goes a line for each call, with its name
+// and its descriptor. Where FAILING_MORE is set, calls that open, connect, wait, set and close are among them. Or it refuses
+// memory, where FAILING_ALLOCATION is set: to the allocation of this number, from 1 and since the program's beginning, and
+// where it is negative to those that follow too. Then each allocation has a line in the log, with its name, its size, and
+// whether the program asks for it or a library. Where FAILING_DURABLE names a folder, it has there of each file that is synced
+// what a power cut would leave: a sync that passes brings what was written since, and one that fails loses it, as a system
+// does that forgets what it couldn't write. FAILING_ORDER gets a line for each write at a place, with place and length, each
+// sync, and each file that may be made, with the mode that is asked for. It has no headers, as a compiler of the kit has none:
+// what it needs of the C library of Linux is declared here.
 typedef __SIZE_TYPE__ size_t;
 typedef long ssize_t, off_t, off64_t;
 typedef unsigned mode_t, socklen_t;
@@ -59,7 +60,9 @@ static int is_it(const char *name, int fd) {
         return 0;
     char line[64];
     note(log, line, snprintf(line, sizeof line, "%s %d\n", name, fd));
-    return number && ++made == atol(number) && (!only || !strcmp(only, name));
+    const char *times = getenv("FAILING_TIMES");
+    long behind = number ? ++made - atol(number) : -1;
+    return behind >= 0 && behind < (times ? atol(times) : 1) && (!only || !strcmp(only, name));
 }
 
 static int how(void) {
@@ -251,6 +254,10 @@ int open(const char *path, int flags, ...) {
     __builtin_va_start(rest, flags);
     mode_t mode = flags & O_CREAT ? __builtin_va_arg(rest, mode_t) : 0;
     __builtin_va_end(rest);
+    const char *log = getenv("FAILING_ORDER"), *slash = strrchr(path, '/');
+    char line[4300];
+    if (log && flags & O_CREAT)
+        note(log, line, snprintf(line, sizeof line, "create %s 0 %o\n", slash ? slash + 1 : path, mode));
     return fails_more(strcmp(path, "/dev/null") ? "open" : "open-null", -1) ? -1 : REAL(open)(path, flags, mode);
 }
 

@@ -1,5 +1,5 @@
 """How calls go wrong, for `.ci/failing-links`: with each error that fits a call, or cut short to one byte or to none; and what
-then ends a sync or a relay."""
+then ends a sync or a relay. A signal interrupts three times in a row, as each try of a call."""
 import errno
 from collections import Counter
 
@@ -40,6 +40,8 @@ def faults(call, way, name):
     """The variables of the library by which a call goes wrong in a way, if it has this name; or none does."""
     how = {None: 0, "one": -1, "none": -2}.get(way) if way in (None, "one", "none") else getattr(errno, way)
     only = {"FAILING_NAME": name} if name else {}
+    if way == "EINTR":
+        only["FAILING_TIMES"] = "3"
     return {"FAILING_MORE": "1", "FAILING_CALL": str(call), "FAILING_HOW": str(how)} | only
 
 
