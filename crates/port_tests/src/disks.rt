@@ -2,8 +2,7 @@
 //! fail, and the three kinds of crashes.
 
 use dr_disk::{Disk, MemoryDisk, Mode, RecordingDisk, SteadyDisk, write_synced};
-use std::alloc::{AllocError, Global};
-use std::test::Fail;
+use std::alloc::Global;
 
 /// Writes, syncs and reads back on a disk of four bytes.
 pub fn works<D: Disk>(disk: &mut D) -> bool {
@@ -26,10 +25,20 @@ pub fn seen<D: Disk>(disk: &mut D) -> [u8; 4] {
     [8; 4]
 }
 
+/// Whether a disk that never fails works.
+fn is_steady(alloc: Global) -> bool {
+    match SteadyDisk::new(alloc, 4) {
+        Ok(mut disk) => works(&mut disk),
+        Err(_) => false,
+    }
+}
+
 /// Whether a disk for recordings of two calls works, and fails at the third.
-fn records(alloc: Global) -> Result<bool, AllocError> {
-    let mut disk = RecordingDisk::new(alloc, 4, 2, 2)?;
-    Ok(works(&mut disk) && disk.sync().is_err())
+fn records(alloc: Global) -> bool {
+    match RecordingDisk::new(alloc, 4, 2, 2) {
+        Ok(mut disk) => works(&mut disk) && disk.sync().is_err(),
+        Err(_) => false,
+    }
 }
 
 /// Whether a disk works, stops, and reads the same when it goes on.
@@ -43,11 +52,17 @@ fn stops(disk: &mut MemoryDisk) -> bool {
     fails && seen(disk) == [0, 5, 6, 0]
 }
 
+/// Whether a disk that crashes in this mode reads so.
+fn crashes(disk: MemoryDisk, mode: Mode, left: [u8; 4]) -> bool {
+    seen(&mut disk.crash(mode)) == left
+}
+
 /// Whether a disk that stops, and then crashes in this mode, reads so.
-fn leaves(alloc: Global, mode: Mode, left: [u8; 4]) -> Result<bool, AllocError> {
-    let mut disk = MemoryDisk::new(alloc, 4)?;
-    let is_stopped = stops(&mut disk);
-    Ok(seen(&mut disk.crash(mode)) == left && is_stopped)
+fn leaves(alloc: Global, mode: Mode, left: [u8; 4]) -> bool {
+    match MemoryDisk::new(alloc, 4) {
+        Ok(mut disk) => stops(&mut disk) & crashes(disk, mode, left),
+        Err(_) => false,
+    }
 }
 
 /// Which of a write, a sync, a write and a sync pass on a disk of four bytes.
@@ -61,46 +76,51 @@ fn passes(disk: &mut MemoryDisk) -> [bool; 4] {
     [first, second, third, disk.sync().is_ok()]
 }
 
-/// Whether just these pass where the `k`-th is told to fail, what is read then, and after a crash.
-fn fails(
-    alloc: Global,
-    k: u32,
-    passing: [bool; 4],
-    read: [u8; 4],
-    left: [u8; 4],
-) -> Result<bool, AllocError> {
-    let mut disk = MemoryDisk::new(alloc, 4)?;
-    if !works(&mut disk) || k == 0 {
-        return Ok(false);
+/// The number of the call that fails, which pass, what is read then, and what a crash leaves.
+type Row = (u32, [bool; 4], [u8; 4], [u8; 4]);
+
+/// Whether a disk that works comes to that.
+fn is_told(disk: &mut MemoryDisk, (k, passing, read, _): Row) -> bool {
+    if !works(disk) || k == 0 {
+        return false;
     }
     disk.fail_at(k);
-    let is_told = passes(&mut disk) == passing && seen(&mut disk) == read;
-    Ok(seen(&mut disk.crash(Mode::Old)) == left && is_told)
+    passes(disk) == passing && seen(disk) == read
 }
 
-// By the number of the call that fails: which pass, what is read then, and what a crash leaves.
-#[test]
-fn calls_that_fail(rt: HostRuntime) -> Result<(), Fail> {
-    let rows = [
-        (1, [false, true, true, true], [0, 5, 7, 8], [0, 5, 7, 8]),
-        (2, [true, false, true, true], [3, 4, 7, 8], [3, 4, 7, 8]),
-        (3, [true, true, false, true], [3, 4, 6, 0], [3, 4, 6, 0]),
-        (4, [true, true, true, false], [3, 4, 7, 8], [3, 4, 6, 0]),
-        (5, [true, true, true, true], [3, 4, 7, 8], [3, 4, 7, 8]),
-    ];
-    for (k, passing, read, left) in rows {
-        assert!(rt; fails(rt.alloc(), k, passing, read, left)?);
+/// Whether a new disk comes to a row.
+fn fails(alloc: Global, row: Row) -> bool {
+    match MemoryDisk::new(alloc, 4) {
+        Ok(mut disk) => is_told(&mut disk, row) & crashes(disk, Mode::Old, row.3),
+        Err(_) => false,
     }
-    Ok(())
+}
+
+/// What comes of each call that fails.
+const ROWS: [Row; 5] = [
+    (1, [false, true, true, true], [0, 5, 7, 8], [0, 5, 7, 8]),
+    (2, [true, false, true, true], [3, 4, 7, 8], [3, 4, 7, 8]),
+    (3, [true, true, false, true], [3, 4, 6, 0], [3, 4, 6, 0]),
+    (4, [true, true, true, false], [3, 4, 7, 8], [3, 4, 6, 0]),
+    (5, [true, true, true, true], [3, 4, 7, 8], [3, 4, 7, 8]),
+];
+
+#[test]
+fn calls_that_fail(rt: HostRuntime) {
+    for row in ROWS {
+        assert!(rt; fails(rt.alloc(), row));
+    }
 }
 
 #[test]
-fn disks_in_memory(rt: HostRuntime) -> Result<(), Fail> {
+fn disks_in_memory(rt: HostRuntime) {
     let alloc = rt.alloc();
-    assert!(rt; works(&mut SteadyDisk::new(alloc, 4)?));
-    assert!(rt; records(alloc)?);
-    assert!(rt; leaves(alloc, Mode::Old, [0, 5, 6, 0])?);
-    assert!(rt; leaves(alloc, Mode::New, [3, 4, 6, 0])?);
-    assert!(rt; leaves(alloc, Mode::Fill(7), [7, 7, 6, 0])?);
-    Ok(())
+    assert!(rt; is_steady(alloc) && records(alloc));
+    for (mode, left) in [
+        (Mode::Old, [0, 5, 6, 0]),
+        (Mode::New, [3, 4, 6, 0]),
+        (Mode::Fill(7), [7, 7, 6, 0]),
+    ] {
+        assert!(rt; leaves(alloc, mode, left));
+    }
 }

@@ -40,7 +40,7 @@ impl Stage {
 }
 
 /// The network over it.
-#[derive(Drop)]
+#[derive(Clone, Copy)]
 pub struct Played<'a> {
     pub stage: &'a Stage,
 }

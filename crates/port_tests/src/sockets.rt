@@ -1,9 +1,10 @@
 //! Both ends of a connection, over loopback.
 
+use crate::waiting::{Peer, meet};
 use dr_ports::{Door, Failed, Link, Pipe};
 use std::io::Write;
 use std::net::TcpStream;
-use tcp_ports::{TcpDoor, TcpLink};
+use tcp_ports::Patience;
 
 /// Whether neither end does its part without the other.
 fn fail_alone<D: Door, L: Link>(door: &mut D, link: &mut L) -> bool {
@@ -96,7 +97,7 @@ fn is_heard<D: Door, L: Link>(door: &mut D, link: &mut L, address: &str) -> bool
 
 /// What both ends do.
 #[derive(Clone, Copy)]
-enum Course {
+pub enum Course {
     Whole,
     Broken,
     Another,
@@ -104,20 +105,18 @@ enum Course {
 }
 
 /// Whether both ends do all of it.
-fn takes<D: Door, L: Link>(rt: &HostRuntime, door: &mut D, link: &mut L, course: Course) -> bool {
+pub fn takes<D: Door, L: Link>(
+    rt: &HostRuntime,
+    door: &mut D,
+    link: &mut L,
+    course: Course,
+) -> bool {
     match course {
         Course::Whole => go(door, link),
         Course::Broken => break_off(door, link),
         Course::Another => accepts_another(rt, door, link),
         Course::Heard => accepts_who_speaks(rt, door, link),
     }
-}
-
-/// Whether a new door and a new link do.
-fn take(rt: &HostRuntime, course: Course) -> bool {
-    let mut door = TcpDoor::new(rt);
-    let mut link = TcpLink::new(rt);
-    takes(rt, &mut door, &mut link, course)
 }
 
 // A peer that ends with bytes that it didn't read breaks the connection.
@@ -129,6 +128,7 @@ fn goes_over_loopback(rt: HostRuntime) {
         Course::Another,
         Course::Heard,
     ] {
-        assert!(rt; take(&rt, course));
+        let (near, far) = (Patience::with_a_client(), Patience::with_a_relay());
+        assert!(rt; meet(&rt, near, far, Peer::Prompt(course)));
     }
 }

@@ -78,20 +78,24 @@ fn are_so<L: Link>(stage: &Stage, link: &mut L, rows: &[Row]) -> bool {
     true
 }
 
-/// Whether they do over a link with this patience.
-fn waits(patience: Patience, rows: &[Row]) -> bool {
-    let stage = Stage::new();
-    let net = Played { stage: &stage };
-    let mut link = TcpLink::with_patience(&net, patience);
-    are_so(&stage, &mut link, rows)
+/// A link with this patience, or a new one.
+fn link_over<'a, 'b>(net: &'a Played<'b>, patience: Option<Patience>) -> TcpLink<'a, Played<'b>> {
+    match patience {
+        Some(patience) => TcpLink::with_patience(net, patience),
+        None => TcpLink::new(net),
+    }
 }
 
-/// Whether they do over a new one.
-fn waits_when_new(rows: &[Row]) -> bool {
+/// Whether they do over such a link.
+fn waits(stage: &Stage, net: &Played<'_>, patience: Option<Patience>, rows: &[Row]) -> bool {
+    let mut link = link_over(net, patience);
+    are_so(stage, &mut link, rows)
+}
+
+/// Whether they do on a new stage.
+fn waits_so(patience: Option<Patience>, rows: &[Row]) -> bool {
     let stage = Stage::new();
-    let net = Played { stage: &stage };
-    let mut link = TcpLink::new(&net);
-    are_so(&stage, &mut link, rows)
+    waits(&stage, &Played { stage: &stage }, patience, rows)
 }
 
 // The first address of the host refuses, and the second one is told to wait as long.
@@ -104,6 +108,6 @@ fn waits_for_what_is_left(rt: HostRuntime) {
             most: Duration::from_secs(100),
         }),
     };
-    assert!(rt; waits(patience, &BOUNDED));
-    assert!(rt; waits_when_new(&NEW));
+    assert!(rt; waits_so(Some(patience), &BOUNDED));
+    assert!(rt; waits_so(None, &NEW));
 }

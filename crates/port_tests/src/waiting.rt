@@ -1,6 +1,6 @@
 //! How long a connection waits for a peer that is silent, slow, or doesn't read.
 
-use crate::sockets::are_joined;
+use crate::sockets::{Course, are_joined, takes};
 use dr_ports::{Door, Failed, Link, Pipe};
 use std::alloc::Global;
 use std::thread;
@@ -97,10 +97,11 @@ fn is_stuffed<D: Door, L: Link>(alloc: Global, door: &mut D, link: &mut L) -> bo
         && matches!(stuffed(door, &bytes), Some(count) if count > 0)
 }
 
-/// What a door meets: a peer that says nothing, one that sends bytes one by one, one that sends
-/// much, which it bears with or gives up, and one that reads nothing.
+/// What a door meets: a peer that keeps nobody waiting, one that says nothing, one that sends bytes
+/// one by one, one that sends much, which it bears with or gives up, and one that reads nothing.
 #[derive(Clone, Copy)]
-enum Peer {
+pub enum Peer {
+    Prompt(Course),
     Silent,
     Slow,
     Busy,
@@ -111,6 +112,7 @@ enum Peer {
 /// Whether a door and a link do what they should with such a peer.
 fn meets<D: Door, L: Link>(rt: &HostRuntime, door: &mut D, link: &mut L, peer: Peer) -> bool {
     match peer {
+        Peer::Prompt(course) => takes(rt, door, link, course),
         Peer::Silent => give_up(rt, door, link),
         Peer::Slow => breaks_off(rt, door, link, b"a"),
         Peer::Busy => bears(rt, door, link),
@@ -120,7 +122,7 @@ fn meets<D: Door, L: Link>(rt: &HostRuntime, door: &mut D, link: &mut L, peer: P
 }
 
 /// Whether a door and a link with these patiences do.
-fn meet(rt: &HostRuntime, near: Patience, far: Patience, peer: Peer) -> bool {
+pub fn meet(rt: &HostRuntime, near: Patience, far: Patience, peer: Peer) -> bool {
     let mut door = TcpDoor::with_patience(rt, near);
     let mut link = TcpLink::with_patience(rt, far);
     meets(rt, &mut door, &mut link, peer)
