@@ -10,9 +10,8 @@ use client::AREA_SIZE;
 use dr_base::{KEPT_LIMIT, Key32, PAGE, Side};
 use file_disk::{FileDisk, Sharing};
 use kem_laws::{Kem, OpenKem};
-use ntru_ring::{
-    R3, Rq, Workspace, inverse_q, inverse3, planes_of, quick_inverse_q, quick_inverse3,
-};
+use ntru_inverse::{inverse_q, inverse3, quick_inverse_q, quick_inverse3};
+use ntru_ring::{R3, Rq, Workspace, planes_of};
 use sntrup761::Sntrup761;
 use std::fs::{File, OpenOptions};
 use std::io::{Error, ErrorKind};

@@ -4,7 +4,8 @@ ghost use Rattle.std.specs.Prelude.{All};
 ghost use Rattle.ntru_ring.specs.Reduction.{IsWithin};
 
 use crate::clock::Times;
-use ntru_ring::{R3, Rq, Workspace, inverse_q, inverse3, planes_of};
+use ntru_inverse::{inverse_q, inverse3};
+use ntru_ring::{R3, Rq, Workspace, planes_of};
 use std::io;
 use std::rt::Clock;
 use std::time::Instant;

@@ -1,6 +1,7 @@
 //! Inverses, worked by hand: of x it is x^760 - 1, and 0 has none.
 
-use ntru_ring::{R3, Rq, Workspace, inverse_q, inverse3};
+use ntru_inverse::{inverse_q, inverse3};
+use ntru_ring::{R3, Rq, Workspace};
 use std::alloc::{AllocError, Global};
 
 /// Whether it is so in both rings, in room that is taken.

@@ -5,9 +5,9 @@
 //! coefficient is the row's pivot, and the row is scaled so that it is 1 there. The 761 pivots
 //! differ, so they are all the places, and the rows clear -1 too: what was added up on the way is
 //! the inverse.
-ghost use Rattle.std.specs.Prelude.{◌≡◌, ◌≢◌, ◌≤◌, ◌<◌, ℕ, ℤ, List, length, pos, slice_index_or, IfSome, MatchResult};
-ghost use Rattle.ntru_ring.specs.Ring.{coefficient, times};
-ghost use Rattle.ntru_ring.specs.Reduction.{reduced, IsInverse, Annihilates};
+ghost use Rattle.std.specs.Prelude.{◌≡◌, ◌≢◌, ◌≤◌, ◌<◌, ℕ, ℤ, List, length, pos, slice_index_or, MatchResult};
+ghost use Rattle.ntru_ring.specs.Ring.{coefficient};
+ghost use Rattle.ntru_ring.specs.Reduction.{IsInverse, Annihilates};
 ghost use Rattle.ntru_ring.specs.Elimination.{IsMultiple, IsCombined};
 ghost use Rattle.ntru_ring.specs.RowsQ.{IsEchelonQ, AreMultiplesQ};
 ghost use Rattle.ntru_ring.specs.declared.rows_q.RowQ.{RowQ};
@@ -16,8 +16,6 @@ ghost use Rattle.ntru_ring.specs.Limits.{HasLimits};
 use crate::blocks_q::candidate::{candidate_by_blocks, element_without_pattern};
 use crate::groups::{group_end, group_start};
 use crate::modulo_q::Rq;
-use crate::modulo_three::R3;
-use crate::planes_three::planes_of;
 use crate::rows_q::{PairQ, RowQ};
 use crate::sums_q::SumsQ;
 use crate::units_q::inverse_of;
@@ -98,7 +96,7 @@ fn row_of(pair: &PairQ, pivot: usize, top: usize) -> RowQ
 }
 
 /// The inverse of `f`, or an annihilator, by all rows.
-fn inverse_by_rows(work: &mut Workspace, f: &Rq) -> Result<Rq, AnnihilatedQ>
+pub fn inverse_q_by_rows(work: &mut Workspace, f: &Rq) -> Result<Rq, AnnihilatedQ>
     ensures { MatchResult result (λ v. IsInverse 2295 f.now.coefficients v.coefficients)
         (λ e. Annihilates 2295 f.now.coefficients e.z.coefficients) }
 {
@@ -116,30 +114,8 @@ fn inverse_by_rows(work: &mut Workspace, f: &Rq) -> Result<Rq, AnnihilatedQ>
     Ok(clear(&work.rows_q, 761, &Rq::monomial(0, -1), &Rq::zero()).b)
 }
 
-/// The product in R/q of `f` and a candidate, by planes where `f` is small.
-fn trial(f: &Rq, candidate: &Rq) -> Rq
-    ensures { result.coefficients ≡ reduced 2295
-        (times f.now.coefficients candidate.now.coefficients) }
-{
-    if f.is_small() {
-        candidate.mul_small(&planes_of(&R3::new(&f.coefficients)))
-    } else {
-        f.mul(candidate)
-    }
-}
-
-/// A candidate, where the trial shows that it is the inverse of `f`.
-fn certified(f: &Rq, candidate: &Rq) -> Option<Rq>
-    ensures { IfSome result (λ v. IsInverse 2295 f.now.coefficients v.coefficients) }
-{
-    if trial(f, candidate) == Rq::monomial(0, 1) {
-        return Some(*candidate);
-    }
-    None
-}
-
 /// A candidate for the inverse of `f` by blocks of steps, of the first trial that meets no gap.
-fn candidate_q(f: &Rq) -> Option<Rq> {
+pub fn candidate_q(f: &Rq) -> Option<Rq> {
     for trial in 0..TRIALS {
         if let Some(candidate) = candidate_by_blocks(f, trial) {
             return Some(candidate);
@@ -150,32 +126,10 @@ fn candidate_q(f: &Rq) -> Option<Rq> {
 
 /// A candidate for the inverse of a sparse `f`, whose rows meet gaps: that of its product with an
 /// element without a pattern.
-fn candidate_of_sparse(f: &Rq) -> Option<Rq> {
+pub fn candidate_of_sparse(f: &Rq) -> Option<Rq> {
     let factor = element_without_pattern();
     let candidate = candidate_q(&f.mul(&factor))?;
     Some(candidate.mul(&factor))
-}
-
-/// The inverse of `f` in R/q by a candidate, where the trial shows that it is one. Where `f` has an
-/// inverse, it was found whenever it was tried; the clause promises nothing of that.
-pub fn quick_inverse_q(f: &Rq) -> Option<Rq>
-    ensures { IfSome result (λ v. IsInverse 2295 f.now.coefficients v.coefficients) }
-{
-    match candidate_q(f) {
-        Some(candidate) => certified(f, &candidate),
-        None => certified(f, &candidate_of_sparse(f)?),
-    }
-}
-
-/// The inverse of `f` in R/q, or an element that shows that there is none.
-pub fn inverse_q(work: &mut Workspace, f: &Rq) -> Result<Rq, AnnihilatedQ>
-    ensures { MatchResult result (λ v. IsInverse 2295 f.now.coefficients v.coefficients)
-        (λ e. Annihilates 2295 f.now.coefficients e.z.coefficients) }
-{
-    match quick_inverse_q(f) {
-        Some(inverse) => Ok(inverse),
-        None => inverse_by_rows(work, f),
-    }
 }
 
 /// The limits of this crate as numbers. The function has no code.

@@ -5,7 +5,7 @@
 //! coefficient is the row's pivot, and the row is scaled so that it is 1 there. The 761 pivots
 //! differ, so they are all the places, and the rows clear -1 too: what was added up on the way is
 //! the inverse.
-ghost use Rattle.std.specs.Prelude.{◌≡◌, ◌≢◌, ◌≤◌, ◌<◌, ℕ, ℤ, List, length, pos, slice_index_or, IfSome, MatchResult};
+ghost use Rattle.std.specs.Prelude.{◌≡◌, ◌≢◌, ◌≤◌, ◌<◌, ℕ, ℤ, List, length, pos, slice_index_or, MatchResult};
 ghost use Rattle.ntru_ring.specs.Ring.{coefficient};
 ghost use Rattle.ntru_ring.specs.Reduction.{IsInverse, Annihilates};
 ghost use Rattle.ntru_ring.specs.Elimination.{IsMultiple, IsCombined};
@@ -13,7 +13,6 @@ ghost use Rattle.ntru_ring.specs.Elements.{element};
 ghost use Rattle.ntru_ring.specs.Rows3.{IsEchelon3, AreMultiples3};
 ghost use Rattle.ntru_ring.specs.declared.rows_three.Row3.{Row3};
 
-use crate::candidate_three::candidate_three;
 use crate::modulo_three::R3;
 use crate::planes_three::{Planes3, planes_of, r3_of};
 use crate::rows_three::{Pair3, Row3};
@@ -75,7 +74,7 @@ fn row_of(pair: &Pair3, pivot: usize, top: usize) -> Row3
 }
 
 /// The inverse of `g`, or an annihilator, by all rows.
-fn inverse_by_rows(work: &mut Workspace, g: &R3) -> Result<R3, Annihilated3>
+pub fn inverse3_by_rows(work: &mut Workspace, g: &R3) -> Result<R3, Annihilated3>
     ensures { MatchResult result (λ v. IsInverse 1 g.now.coefficients v.coefficients)
         (λ e. Annihilates 1 g.now.coefficients e.z.coefficients) }
 {
@@ -93,29 +92,4 @@ fn inverse_by_rows(work: &mut Workspace, g: &R3) -> Result<R3, Annihilated3>
     }
     let minus_one = planes_of(&R3::monomial(0, -1));
     Ok(r3_of(&clear(&work.rows_three, 761, &minus_one, &Planes3::zero()).b))
-}
-
-/// The inverse of `g` in R/3 by its candidate, where the trial shows that it is one. Where `g` has
-/// an inverse, it was found whenever it was tried; the clause promises nothing of that.
-pub fn quick_inverse3(g: &R3) -> Option<R3>
-    ensures { IfSome result (λ v. IsInverse 1 g.now.coefficients v.coefficients) }
-{
-    let small = planes_of(g);
-    let candidate = candidate_three(&small);
-    let planes = planes_of(&candidate);
-    if small.mul(&planes) == planes_of(&R3::monomial(0, 1)) {
-        return Some(candidate);
-    }
-    None
-}
-
-/// The inverse of `g` in R/3, or an element that shows that there is none.
-pub fn inverse3(work: &mut Workspace, g: &R3) -> Result<R3, Annihilated3>
-    ensures { MatchResult result (λ v. IsInverse 1 g.now.coefficients v.coefficients)
-        (λ e. Annihilates 1 g.now.coefficients e.z.coefficients) }
-{
-    match quick_inverse3(g) {
-        Some(inverse) => Ok(inverse),
-        None => inverse_by_rows(work, g),
-    }
 }

@@ -3,16 +3,16 @@
 //!
 //! An element is its 761 coefficients, that of x^0 first, each by its representative next to zero.
 //! [`R3`] and [`Rq`] keep the range in their types, so sums, products and inverses ask for nothing
-//! more. [`inverse3`] and [`inverse_q`] work in a [`Workspace`] that is taken once: they answer
-//! with the inverse, or with an element that shows that there is none. [`quick_inverse3`] and
-//! [`quick_inverse_q`] are the short way to it, which they take first. [`Planes3`] holds an element
-//! of R/3 as two bits for each coefficient, for sums of 64 coefficients at a time. [`laws`] states
-//! the algebra that a caller's proofs stand on.
+//! more. [`inverse3_by_rows`] and [`inverse_q_by_rows`] work in a [`Workspace`] that is taken once:
+//! they answer with the inverse, or with an element that shows that there is none.
+//! [`candidate_three`] and [`candidate_q`] say at once what it may be; the crate `ntru_inverse`
+//! tries that first. [`Planes3`] holds an element of R/3 as two bits for each coefficient, for sums
+//! of 64 coefficients at a time. [`laws`] states the algebra that a caller's proofs stand on.
 #![tactic(auto)]
 
 mod bits_three;
 mod blocks_q;
-mod candidate_three;
+mod candidates_three;
 mod elimination_q;
 mod elimination_three;
 mod groups;
@@ -32,8 +32,11 @@ mod units_q;
 mod words_three;
 mod working;
 
-pub use elimination_q::{AnnihilatedQ, inverse_q, limits_in_numbers, quick_inverse_q};
-pub use elimination_three::{Annihilated3, inverse3, quick_inverse3};
+pub use candidates_three::candidate_three;
+pub use elimination_q::{
+    AnnihilatedQ, candidate_of_sparse, candidate_q, inverse_q_by_rows, limits_in_numbers,
+};
+pub use elimination_three::{Annihilated3, inverse3_by_rows};
 pub use modulo_q::Rq;
 pub use modulo_three::R3;
 pub use planes_three::{Planes3, planes_of, r3_of};

@@ -47,7 +47,7 @@ impl Rq {
     }
 
     /// Whether all coefficients are -1, 0 or 1.
-    pub(crate) fn is_small(&self) -> bool
+    pub fn is_small(&self) -> bool
         ensures { IsTrue result ↔ All (IsWithin 1) self.now.coefficients }
     {
         for k in 0..761 {

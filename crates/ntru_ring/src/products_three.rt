@@ -66,7 +66,7 @@ fn rows_of(a: &Planes3) -> [Planes3; 12]
 
 impl Planes3 {
     /// The product in R/3.
-    pub(crate) fn mul(&self, o: &Planes3) -> Planes3
+    pub fn mul(&self, o: &Planes3) -> Planes3
         ensures { element result ≡ reduced 1 (times (element self.now) (element o.now)) }
     {
         let rows = rows_of(o);

@@ -11,4 +11,3 @@ pub mod Reading
 pub mod ScriptLines
 pub mod ScriptSeeds
 pub mod Seeds
-pub mod Splitting

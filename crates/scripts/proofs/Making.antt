@@ -4,7 +4,6 @@ use Rattle.std.specs.Prelude.{⊤, nat_lt}
 use Rattle.std.proofs.lemmas.Bool.Decides.{nat_tests}
 use Rattle.std.proofs.lemmas.Fmt.{decimal_digit}
 use Rattle.std.proofs.lemmas.List.{length-append}
-use Rattle.std.proofs.Math.Nat.{mod-add-mod, mul_comm}
 use Rattle.dr_base.specs.declared.position.Side.{Side}
 use Rattle.dr_base.specs.declared.position.Side.TheVariants.{First, Second}
 use Rattle.session_model.specs.declared.answer.Amount.TheVariants.{All, Exactly}
@@ -203,9 +202,3 @@ makes_all rounds number round made text count p past = go p.left p.rest p.all
     go zero rest all =
         let counted = text_counted p.deeds count p.lines p.count_is in
         rw p.text_is (counted.0, counted.1 ∙ sym (all ∙ append-nil p.deeds))
-
--- ---- draws
-
--- the wrapping product and sum
-pub number_is : (x a b : ℕ) → ((x * a) % 2 ^ 64 + b) % 2 ^ 64 ≡ (a * x + b) % 2 ^ 64
-number_is x a b = mod-add-mod (x * a) (2 ^ 64) b ∙ ap (λ n. (n + b) % 2 ^ 64) (mul_comm x a)

@@ -1,10 +1,11 @@
 -- A script that is made from a number: in each round a side says a text, or takes one of the packets that the other side made.
-use Rattle.std.specs.Prelude.{ℕ, zero, suc, ◌+◌, ◌*◌, ◌/◌, ◌%◌, ◌^◌, ◌==◌, nat_lt, List, [], ◌∷◌, ◌++◌, replicate, codes, decimal, if◌then◌else◌}
+use Rattle.std.specs.Prelude.{ℕ, zero, suc, ◌+◌, ◌/◌, ◌%◌, ◌^◌, ◌==◌, nat_lt, List, [], ◌∷◌, ◌++◌, replicate, codes, decimal, if◌then◌else◌}
 use Rattle.dr_base.specs.declared.position.Side.{Side}
 use Rattle.dr_base.specs.declared.position.Side.TheVariants.{First, Second}
 use Rattle.session_model.specs.declared.answer.Amount.TheVariants.{All, Exactly}
 use Rattle.session_model.specs.declared.answer.Items.TheVariants.{Packets, Texts}
 use Rattle.dr_model.specs.Machines.Events.{does, drops, of_number, says, takes}
+unfoldable pub use Rattle.script_parts.specs.Parts.{next_number}
 use Rattle.scripts.specs.Deeds.{Deed, acts}
 use Rattle.scripts.specs.Heads.{both_plain}
 use Rattle.scripts.specs.Script.{Scripted}
@@ -14,10 +15,6 @@ use Rattle.scripts.specs.declared.make.rounds.Turn.{Turn}
 use Rattle.scripts.specs.declared.make.rounds.Turn.TheVariants.{Says, Takes, Rests}
 
 -- ---- draws
-
--- the number after a number
-unfoldable pub next_number : ℕ → ℕ
-next_number x = (6364136223846793005 * x + 1442695040888963407) % 2 ^ 64
 
 -- a draw steps to the next number
 unfoldable pub advanced : Making → Making

@@ -1,24 +1,16 @@
 -- A script: its lines, and what they say together.
-use Rattle.std.specs.Prelude.{◌≡◌, ℕ, suc, ◌==◌, List, [], ◌∷◌, length, Option, Some, None, Result, Ok, Err, codes, if◌then◌else◌}
+use Rattle.std.specs.Prelude.{◌≡◌, ℕ, suc, List, [], ◌∷◌, length, Option, Some, None, Result, Ok, Err, codes, if◌then◌else◌}
 use Rattle.std.specs.Option.{option_and_then}
 use Rattle.std.specs.Result.{result_ok}
 use Rattle.hex.specs.Hex.{decode_sized}
+pub use Rattle.script_parts.specs.Parts.{with_byte}
+unfoldable pub use Rattle.script_parts.specs.Parts.{lines_of}
 use Rattle.dr_model.specs.Conversations.Formats.{Formats}
 use Rattle.scripts.specs.Deeds.{Deed}
 use Rattle.scripts.specs.Heads.{Headed, head_read}
 use Rattle.scripts.specs.Words.{after_prefix, is_text, line_read}
 use Rattle.scripts.specs.declared.script.KemName.{KemName}
 use Rattle.scripts.specs.declared.script.KemName.TheVariants.{Open, Sntrup761}
-
--- a byte before the first line
-abbrev pub with_byte : ℕ → List (List ℕ) → List (List ℕ)
-with_byte byte [] = (byte ∷ []) ∷ []
-with_byte byte (line ∷ lines) = (byte ∷ line) ∷ lines
-
--- the lines of a text: each ends with a line feed, which the last may lack
-unfoldable pub lines_of : List ℕ → List (List ℕ)
-lines_of [] = []
-lines_of (byte ∷ rest) = if byte == 10 then [] ∷ lines_of rest else with_byte byte (lines_of rest)
 
 -- a deed before those of the next lines
 abbrev pub with_deed : Deed → Result (List Deed) ℕ → Result (List Deed) ℕ

@@ -1,10 +1,10 @@
 -- What a line of a script says.
-use Rattle.std.specs.Prelude.{ℕ, ◌+◌, ◌/◌, ◌==◌, Bool, true, false, nat_le, List, [], length, take, drop, nat_eq, position, slice_index, Option, Some, None, option_map, codes, if◌then◌else◌}
-use Rattle.std.specs.List.{starts_with}
+use Rattle.std.specs.Prelude.{ℕ, ◌/◌, Bool, true, false, nat_le, List, [], length, nat_eq, slice_index, Option, Some, None, option_map, codes, if◌then◌else◌}
 use Rattle.std.specs.Cmp.Lexicographic.{pointwise}
 use Rattle.std.specs.Option.{option_and_then, option_or}
 use Rattle.std.specs.Result.{result_ok}
 use Rattle.hex.specs.Hex.{decode_sized}
+unfoldable pub use Rattle.script_parts.specs.Parts.{after_prefix, halves_of}
 use Rattle.dr_disk.specs.declared.call.Mode.{Mode}
 use Rattle.dr_disk.specs.declared.call.Mode.TheVariants.{Fill, New, Old}
 use Rattle.dr_base.specs.declared.position.Position.{Position}
@@ -20,17 +20,9 @@ use Rattle.scripts.specs.Deeds.{Deed, acts, fails, reopens, stops, syncs}
 use Rattle.scripts.specs.Number.{script_number_read}
 use Rattle.scripts.specs.declared.hexed.TheConstants.{DIGIT_LIMIT}
 
--- what follows a prefix
-unfoldable pub after_prefix : List ℕ → List ℕ → Option (List ℕ)
-after_prefix prefix line = if starts_with nat_eq line prefix then Some (drop (length prefix) line) else None
-
 -- the line is this text
 abbrev pub is_text : List ℕ → List ℕ → Bool
 is_text text line = pointwise nat_eq line text
-
--- the text before the first byte of this kind, and the text after it
-unfoldable pub halves_of : ℕ → List ℕ → Option (List ℕ × List ℕ)
-halves_of mark text = option_map (λ at. (take at text, drop (at + 1) text)) (position (λ byte. byte == mark) text)
 
 -- `all`, or a number
 unfoldable pub amount_words : List ℕ → Option Amount

@@ -8,11 +8,11 @@ ghost use Rattle.scripts.specs.Words.{call_words, fail_words, mode_read, stop_wo
 use crate::call::{Failure, LineCall};
 use crate::lined::Stop;
 use crate::number::{counted, number};
-use crate::split::{after_prefix, cut_at};
 use crate::words::parse_called;
 use dr_base::Side;
 use dr_disk::Mode;
 use hex::FromHex;
+use script_parts::{after_prefix, cut_at};
 
 /// Reads a call in which a disk may stop or fail.
 #[tactic(auto, unfolding(crate::specs::Words::call_words))]

@@ -6,10 +6,10 @@ ghost use Rattle.scripts.specs.Script.{kem_read, key_read, lines_of};
 ghost use Rattle.scripts.specs.Seen.{head_fields};
 
 use crate::script::KemName;
-use crate::split::{after_prefix, cut_at, split_line};
 use bodies::Format;
 use dr_base::Key32;
 use hex::FromHex;
+use script_parts::{after_prefix, cut_at, split_line};
 
 /// What the lines after the key say, and the text after them.
 #[derive(Clone, Copy)]

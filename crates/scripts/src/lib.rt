@@ -22,6 +22,5 @@ mod make;
 mod number;
 mod script;
 mod sides;
-mod split;
 mod syncing;
 mod words;

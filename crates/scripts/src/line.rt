@@ -7,10 +7,10 @@ ghost use Rattle.scripts.specs.Seen.{event_of};
 
 use crate::call::LineCall;
 use crate::sides::named_side;
-use crate::split::after_prefix;
 use crate::words::{parse_called, parse_look};
 use dr_base::Side;
 use hex::FromHex;
+use script_parts::after_prefix;
 
 /// What one line says that stops no disk.
 #[derive(Clone, Copy)]

@@ -5,7 +5,7 @@ ghost use Rattle.scripts.specs.Script.{AreRead, deeds_in};
 ghost use Rattle.scripts.specs.Lined.{lined_deed};
 
 use crate::lined::Lined;
-use crate::split::split_line;
+use script_parts::split_line;
 use std::marker::Model;
 
 /// The lines that are left. A contract sees them as their deeds.

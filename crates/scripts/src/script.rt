@@ -9,9 +9,9 @@ ghost use Rattle.scripts.specs.Script.{AreCounted, deeds_in, deeds_of, lines_of,
 use crate::head::{parse_head, parse_kem, parse_key};
 use crate::lined::Lined;
 use crate::lines::Lines;
-use crate::split::split_line;
 use bodies::Format;
 use dr_base::{Key32, Side};
+use script_parts::split_line;
 use std::alloc::Global;
 use std::marker::Model;
 

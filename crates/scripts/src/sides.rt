@@ -4,8 +4,8 @@ ghost use Rattle.std.specs.Prelude.{◌≡◌, ◌≤◌, length, option_map};
 ghost use Rattle.scripts.specs.Sides.{side_text};
 ghost use Rattle.scripts.specs.Words.{side_named};
 
-use crate::split::after_prefix;
 use dr_base::Side;
+use script_parts::after_prefix;
 
 /// A side, and a space.
 #[tactic(auto, unfolding(crate::specs::Sides::side_text))]

@@ -4,7 +4,7 @@ ghost use Rattle.std.specs.Prelude.{◌≡◌};
 ghost use Rattle.scripts.specs.Words.{lose_words, sync_words};
 
 use crate::number::counted;
-use crate::split::after_prefix;
+use script_parts::after_prefix;
 
 /// Reads `lose` and the number of a reply, from 1.
 #[tactic(auto, unfolding(crate::specs::Words::lose_words))]

@@ -8,10 +8,10 @@ use crate::call::{Call, LineCall, Source};
 use crate::hexed::{DIGIT_LIMIT, HEX_LIMIT};
 use crate::line::Line;
 use crate::number::number;
-use crate::split::{after_prefix, cut_at};
 use answer_lines::drop_word;
 use dr_base::{Position, Side};
 use hex::decode_to_slice;
+use script_parts::{after_prefix, cut_at};
 use session_model::{Amount, Items};
 
 /// What stands after a word and a space; nothing where the word stands alone.

@@ -1,42 +1,17 @@
--- The fields of a record before its lists.
-use Rattle.std.specs.Prelude.{ℕ, ◌==◌, ◌&&◌, ◌||◌, ◌⊎◌, Bool, true, false, not, nat_le, nat_lt, List, ◌++◌, Option, Some, None, if◌then◌else◌}
-use Rattle.std.proofs.Common.{inl, inr}
-use Rattle.std.specs.Int.{w8, w32, to_be_bytes}
+-- The fields of a record that tell its version and its format.
+use Rattle.std.specs.Prelude.{ℕ, ◌==◌, ◌&&◌, ◌||◌, Bool, List, Option, Some, None, if◌then◌else◌}
+use Rattle.std.specs.Int.{w8, to_be_bytes}
 use Rattle.bodies.specs.declared.format.Format.{Format}
 use Rattle.bodies.specs.declared.format.Format.TheVariants.{Padded, Plain, Receipts}
-use Rattle.cka.specs.Agreement.{agreement_size}
-use Rattle.dr_base.specs.Position.{is_own}
-use Rattle.dr_base.specs.declared.limits.TheConstants.{INDEX_LIMIT, LAST_EPOCH}
-use Rattle.dr_base.specs.declared.position.Side.{Side}
-use Rattle.dr_base.specs.declared.position.Side.TheVariants.{First, Second}
-use Rattle.grammar.specs.Printer.{print_either, print_maybe}
-use Rattle.grammar.specs.Reader.{Reader, number, piece, checked, mapped, both, maybe, either}
-use Rattle.kem_laws.specs.Mechanism.{Mechanism}
-use Rattle.packet.specs.Packet.{agreement_len}
-use Rattle.session_model.specs.States.{Own, Phase, Reception, in_own, in_peers}
+use Rattle.grammar.specs.Printer.{print_maybe}
+use Rattle.grammar.specs.Reader.{Reader, number, checked, mapped, maybe}
+pub use Rattle.record_fields.specs.Fields.{code_of, format_code, has_receiving, is_good, is_previous, is_secret, is_side, of_own, of_phase, of_reception, own_of, own_text, phase_of, phase_text, reception_of, reception_text, side_at, up_to}
+unfoldable pub use Rattle.record_fields.specs.Fields.{count_field, epoch_field, own_fields, phase_field, previous_field, receiving_field, reception_fields, side_field}
 use Rattle.session_record.specs.Versions.{has_format, has_receipts, is_version, version_at}
 use Rattle.session_record.specs.declared.versions.Version.{Version}
 
-abbrev pub up_to : ℕ → ℕ → Bool
-up_to most n = nat_le n most
-
 unfoldable pub version_field : Reader Version
 version_field = mapped version_at (checked is_version (number w8))
-
--- ---- the side: 1 is First, 2 is Second
-
-abbrev pub is_side : ℕ → Bool
-is_side n = (n == 1) || (n == 2)
-
-abbrev pub side_at : ℕ → Side
-side_at n = if n == 1 then First else Second
-
-abbrev pub code_of : Side → ℕ
-code_of First = 1
-code_of Second = 2
-
-unfoldable pub side_field : Reader Side
-side_field = mapped side_at (checked is_side (number w8))
 
 -- ---- the format, where the version has a byte for it: 1 is Plain, 2 is Padded, 3 is Receipts
 
@@ -46,11 +21,6 @@ is_format version n = (n == 1) || ((n == 2) || ((n == 3) && has_receipts version
 
 abbrev pub format_at : ℕ → Format
 format_at n = if n == 1 then Plain else if n == 2 then Padded else Receipts
-
-abbrev pub format_code : Format → ℕ
-format_code Plain = 1
-format_code Padded = 2
-format_code Receipts = 3
 
 -- without a byte it is Plain
 abbrev pub format_of : Option Format → Format
@@ -69,84 +39,3 @@ format_field version = mapped format_of (maybe (has_format version) (format_byte
 abbrev pub format_text : Version → Format → List ℕ
 format_text version format =
     print_maybe (λ one. to_be_bytes w8 (format_code one)) (of_format version format)
-
--- ---- the epoch, up to the last one; and a count of texts
-
-unfoldable pub epoch_field : Reader ℕ
-epoch_field = checked (up_to LAST_EPOCH) (number w32)
-
-unfoldable pub count_field : Reader ℕ
-count_field = checked (up_to INDEX_LIMIT) (number w32)
-
--- ---- the keys of the epoch
-
--- no byte of a secret is one that no secret has there
-abbrev pub is_good : Option ℕ → Bool
-is_good None = true
-is_good (Some at) = false
-
-abbrev pub is_secret : Mechanism → List ℕ → Bool
-is_secret k bytes = is_good (k.meaning.bad_byte bytes)
-
-abbrev pub own_of : List ℕ × (List ℕ × (List ℕ × ℕ)) → Own
-own_of e = record { secret = e.0; agreement = e.1.0; chain = e.1.1.0; sent = e.1.1.1 }
-
-abbrev pub of_own : Own → List ℕ × (List ℕ × (List ℕ × ℕ))
-of_own own = (own.secret, (own.agreement, (own.chain, own.sent)))
-
--- in an own epoch: the secret, the agreement message, the chain key, and how many texts were said
-unfoldable pub own_fields : Mechanism → ℕ → Reader Own
-own_fields k epoch =
-    mapped own_of
-    (both (checked (is_secret k) (piece k.secret)) (λ _.
-    both (piece (agreement_len (agreement_size k) epoch)) (λ _.
-    both (piece 32) (λ _.
-    count_field))))
-
-abbrev pub own_text : Own → List ℕ
-own_text own = own.secret ++ (own.agreement ++ (own.chain ++ to_be_bytes w32 own.sent))
-
-abbrev pub phase_of : Own ⊎ List ℕ → Phase
-phase_of (inl own) = in_own own
-phase_of (inr public) = in_peers public
-
-abbrev pub of_phase : Phase → Own ⊎ List ℕ
-of_phase (in_own own) = inl own
-of_phase (in_peers public) = inr public
-
--- in a peer's epoch: the peer's public key
-unfoldable pub phase_field : Mechanism → Side → ℕ → Reader Phase
-phase_field k side epoch =
-    mapped phase_of (either (is_own side epoch) (own_fields k epoch) (piece k.public))
-
-abbrev pub phase_text : Phase → List ℕ
-phase_text phase = print_either own_text (λ public. public) (of_phase phase)
-
--- ---- the texts of the own epoch before: none where there is no such epoch
-
-abbrev pub is_previous : Side → ℕ → ℕ → Bool
-is_previous side epoch n =
-    up_to INDEX_LIMIT n && ((n == 0) || nat_le (if is_own side epoch then 2 else 1) epoch)
-
-unfoldable pub previous_field : Side → ℕ → Reader ℕ
-previous_field side epoch = checked (is_previous side epoch) (number w32)
-
--- ---- the stream of the latest peer's epoch: there is one but where Second is in epoch 0
-
-abbrev pub has_receiving : Side → ℕ → Bool
-has_receiving side epoch = not (is_own side epoch) || nat_lt 0 epoch
-
-abbrev pub reception_of : List ℕ × ℕ → Reception
-reception_of e = record { chain = e.0; reach = e.1 }
-
-abbrev pub of_reception : Reception → List ℕ × ℕ
-of_reception r = (r.chain, r.reach)
-
-unfoldable pub reception_fields : Reader Reception
-reception_fields = mapped reception_of (both (piece 32) (λ _. count_field))
-
-unfoldable pub receiving_field : Side → ℕ → Reader (Option Reception)
-receiving_field side epoch = maybe (has_receiving side epoch) reception_fields
-
-abbrev pub reception_text : Reception → List ℕ
-reception_text r = r.chain ++ to_be_bytes w32 r.reach

@@ -17,7 +17,7 @@ use Rattle.kem_laws.specs.Mechanism.{Mechanism}
 use Rattle.packet.specs.declared.fault.Malformed.{Malformed}
 use Rattle.packet.specs.Packet.{Fields}
 use Rattle.packet.specs.Reading.{read_packet, is_index}
-use Rattle.session_model.specs.States.{Reception}
+pub use Rattle.record_fields.specs.Fields.{reach_of}
 use Rattle.session_record.specs.Fields.{up_to}
 use Rattle.session_record.specs.Versions.{has_kinds, inbox_most, is_packet_of, kept_most, outbox_most, text_most}
 use Rattle.session_record.specs.declared.versions.Version.{Version}
@@ -39,10 +39,6 @@ is_peers side epoch t = not (is_own side t) && nat_le t epoch
 -- and not below the one before
 abbrev pub is_kept_epoch : Side → ℕ → Position → ℕ → Bool
 is_kept_epoch side epoch last t = is_peers side epoch t && nat_le last.epoch t
-
-abbrev pub reach_of : Option Reception → ℕ
-reach_of None = 0
-reach_of (Some r) = r.reach
 
 -- the greatest index that may be kept: in the latest of the peer's epochs the reach
 abbrev pub most_kept : ℕ → ℕ → ℕ → ℕ

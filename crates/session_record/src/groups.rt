@@ -9,16 +9,17 @@ ghost use Rattle.session_record.specs.Seen.{keys_seen};
 ghost use Rattle.session_record.specs.Versions.{newest};
 
 use crate::kept::{put_kept, read_kept};
-use crate::keys::{
-    put_phase, put_receiving, reach_of, read_array, read_key, read_phase, read_receiving,
-};
-use crate::numbers::{format_code, read_epoch, read_format, read_previous, read_side, side_code};
+use crate::numbers::read_format;
 use crate::versions::{NEWEST, Version, read_version};
 use arrayvec::ArrayVec;
 use bodies::Format;
 use dr_base::{KEPT_LIMIT, Kept, Key32, Side, put, put_u8, put_u32};
 use grammar::Cursor;
 use kem_laws::Kem;
+use record_fields::{
+    format_code, put_phase, put_receiving, reach_of, read_array, read_epoch, read_key, read_phase,
+    read_previous, read_receiving, read_side, side_code,
+};
 use session_model::{LentPart, Phase, Reception};
 
 /// What a record begins with.

@@ -9,10 +9,10 @@ ghost use Rattle.grammar.specs.Standing.{Reads};
 ghost use Rattle.session_record.specs.Lists.{kept_behind, kept_field, kept_item, kept_text};
 
 use crate::groups::Heading;
-use crate::keys::read_key;
 use arrayvec::ArrayVec;
 use dr_base::{INDEX_LIMIT, KEPT_LIMIT, Kept, Position, put, put_u16, put_u32};
 use grammar::Cursor;
+use record_fields::read_key;
 
 /// A kept key after the one at a position.
 #[tactic(auto, unfolding(crate::specs::Lists::kept_behind))]

@@ -2,7 +2,8 @@
 
 ghost use Rattle.sntrup_core.specs.Tries.{IsTry};
 
-use ntru_ring::{Annihilated3, AnnihilatedQ, R3, Rq, Workspace, inverse_q, inverse3, planes_of};
+use ntru_inverse::{inverse_q, inverse3};
+use ntru_ring::{Annihilated3, AnnihilatedQ, R3, Rq, Workspace, planes_of};
 
 /// What a try of key generation gives.
 #[derive(Clone, Copy)]

@@ -1,7 +1,6 @@
 //! One connection, if there is one.
 
-ghost use Rattle.std.specs.Prelude.{◌≡◌, ◌<◌, ◌↔◌, length, None, IsTrue, IfOk, IfSome};
-ghost use Rattle.dr_base.specs.Descriptors.{IsOwn};
+ghost use Rattle.std.specs.Prelude.{◌≡◌, ◌<◌, length, None, IfOk};
 ghost use Rattle.tcp_ports.specs.Streams.{Passes, WentOver};
 
 use crate::patience::{Patience, Traffic};
@@ -9,14 +8,11 @@ use dr_ports::Failed;
 use std::io;
 use std::io::{Error, ErrorKind, Read, Write};
 use std::net::{Net, OpenStream};
-use std::os::fd::AsRawFd;
 use std::time::{Clock, Duration, Instant};
+use tcp_hall::is_own;
 
 /// How often a call that a signal interrupts is tried.
 const TRIES: u32 = 1_000;
-
-/// The least descriptor that no standard stream has.
-const FIRST_OWN: i32 = 3;
 
 /// A stream, when it was taken, and what went over it.
 #[derive(Drop)]
@@ -35,15 +31,6 @@ pub struct Connection<'a, R: Net + Clock> {
     patience: Patience,
     current: Option<Open<R::Stream>>,
     pub faults: u64,
-}
-
-/// Whether no standard stream has the descriptor. A program that was started with one of them
-/// closed is given its number for the next descriptor that it opens, and what it prints would go
-/// there.
-pub(crate) fn is_own<F: AsRawFd>(opened: &F) -> bool
-    ensures { IfSome (F.raw_fd opened.now) (λ descriptor. IsTrue result ↔ IsOwn descriptor) }
-{
-    opened.as_raw_fd() >= FIRST_OWN
 }
 
 impl<S: Drop> Open<S> {

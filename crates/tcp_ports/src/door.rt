@@ -5,13 +5,13 @@ ghost use Rattle.dr_ports.specs.MemoryWires.{nobody};
 ghost use Rattle.tcp_ports.specs.Sockets.{no_faults, untold_port};
 
 use crate::connection::Connection;
-use crate::hall::Hall;
 use crate::patience::Patience;
 use dr_ports::{Door, Failed, Pipe};
 use std::alloc::AllocGlobal;
 use std::marker::Model;
 use std::net::{Net, TcpStream};
 use std::time::{Clock, Duration};
+use tcp_hall::Hall;
 
 /// For how many seconds one who came may say nothing.
 const SILENCE: u64 = 10;

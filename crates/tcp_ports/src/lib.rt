@@ -10,7 +10,5 @@ pub use patience::{Patience, RATE, Traffic, Whole, limits_in_numbers};
 
 mod connection;
 mod door;
-mod guests;
-mod hall;
 mod link;
 mod patience;

@@ -1,7 +1,8 @@
 //! Worked rows of the ring.
 ghost use Rattle.ntru_ring.specs.Reduction.{IsWithin};
 
-use ntru_ring::{R3, Rq, planes_of, quick_inverse_q, quick_inverse3, r3_of};
+use ntru_inverse::{quick_inverse_q, quick_inverse3};
+use ntru_ring::{R3, Rq, planes_of, r3_of};
 use sntrup_core::short_of;
 use std::process::Abort;
 

@@ -1,15 +1,10 @@
 //! The rounds of a script that is made from a number.
 
 ghost use Rattle.std.specs.Prelude.{◌≡◌, ◌-◌, ◌<◌, ◌^◌};
-ghost use Rattle.scripts.specs.Make.{advanced, drawn, next_number, opening, round_of, said_to, saying, side_drawn, taking};
+ghost use Rattle.scripts.specs.Make.{advanced, drawn, opening, round_of, said_to, saying, side_drawn, taking};
 
 use dr_base::Side;
-
-/// What a number is multiplied by for the next one.
-const MULTIPLIER: u64 = 6_364_136_223_846_793_005;
-
-/// What is added then.
-const INCREMENT: u64 = 1_442_695_040_888_963_407;
+use script_parts::next_number;
 
 /// What stands between two rounds: the last number, and how many texts each side has said.
 #[derive(Clone, Copy)]
@@ -28,14 +23,6 @@ pub enum Turn {
     Takes(Side, u32),
     /// Nothing: the other side has said no text yet.
     Rests,
-}
-
-/// The number after a number.
-#[tactic(auto, unfolding(crate::specs::Make::next_number))]
-fn next_number(number: u64) -> u64
-    ensures { result ≡ next_number number }
-{
-    number.wrapping_mul(MULTIPLIER).wrapping_add(INCREMENT)
 }
 
 /// The side whose a draw is.
