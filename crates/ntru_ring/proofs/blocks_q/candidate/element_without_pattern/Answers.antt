@@ -6,3 +6,6 @@ use Rattle.ntru_ring.proofs.blocks_q.candidate.element_without_pattern.Goals as 
 
 pub loop-k-init : goal.loop-k-init
 loop-k-init c k d h = subst (IsWithin 2295) (sym (get_or-replicate 761 k (pos 0) d h)) (within_zero 2295)
+
+pub new-requires : goal.new-requires
+new-requires c = c.loop-k.invariant
