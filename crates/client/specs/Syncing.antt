@@ -8,4 +8,5 @@ pub mod InOrder
 pub mod InWorlds
 pub mod Transfers
 pub mod Arrivals
+pub mod Whole
 pub mod GoingOver

@@ -1,4 +1,5 @@
-//! What holds over whole runs. The functions have no code: a caller that needs a fact calls them.
+//! The laws of a client: of its limits, over whole runs and of syncs. The functions have no code: a
+//! caller that needs a fact calls them.
 
 ghost use Rattle.std.specs.Prelude.{◌≡◌, ◌≤◌, ◌+◌, ℕ, List, Some, slice_get};
 ghost use Rattle.boxes.specs.Posts.{Post};
@@ -21,7 +22,10 @@ ghost use Rattle.client.specs.Moments.{AreLinked, Known, LeavesWhole, StandsStil
 ghost use Rattle.client.specs.Opening.{IsUnopened, ReadsClient, SaysNothing};
 ghost use Rattle.client.specs.Spent.{IsErasedOn, IsUsed};
 
+pub use crate::client::limits_in_numbers;
+pub use crate::histories::{exchange, meanwhile, syncs_are_links};
 use crate::refusals::OpenRefusal;
+pub use crate::syncing::{goes_over, sent_behind_the_disk};
 use dr_disk::Disk;
 use dr_model::{acts_follow, erasure};
 use kem_laws::{Kem, laws};

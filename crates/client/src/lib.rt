@@ -40,15 +40,6 @@ pub use saying::say;
 pub use syncing::{Names, SyncFault, SyncRefusal};
 pub use taking::take;
 
-// Laws: functions without code.
-pub use client::limits_in_numbers;
-pub use histories::{exchange, meanwhile, syncs_are_links};
-pub use laws::{
-    areas_are_their_records, client_grounds, crash_safety, opens_again, single_use,
-    stays_undamaged, used_keys_stay_erased,
-};
-pub use syncing::{goes_over, sent_behind_the_disk};
-
 mod begin;
 mod beginning;
 mod client;
@@ -57,7 +48,7 @@ mod dropping;
 mod histories;
 mod keepers;
 mod keeping;
-mod laws;
+pub mod laws;
 mod looking;
 mod opening;
 mod refusals;

@@ -19,7 +19,7 @@ use scripts::side_prefix;
 pub fn goes_over()
     ensures { (k : Mechanism) → SyncsGoOver k }
 {
-    client::goes_over();
+    client::laws::goes_over();
 }
 
 impl<K: Kem> Party<K> {

@@ -26,7 +26,7 @@ ghost use Rattle.session_commands.specs.Histories.{LinksActs, LinksCuts, cut_in_
 ghost use Rattle.session_commands.specs.Showing.{ShowsIn};
 ghost use Rattle.session_commands.specs.Syncing.{SyncRunsIn};
 
-use client::client_grounds;
+use client::laws::client_grounds;
 use dr_disk::Disk;
 use dr_ports::Draws;
 

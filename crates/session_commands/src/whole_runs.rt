@@ -18,7 +18,7 @@ ghost use Rattle.session_commands.specs.Completing.{ReadsWhole};
 ghost use Rattle.session_commands.specs.Talks.{HaveTalked, IsTalk};
 ghost use Rattle.session_commands.specs.WholeRuns.{AreRun};
 
-use client::client_grounds;
+use client::laws::client_grounds;
 use dr_disk::Disk;
 use dr_ports::Draws;
 

@@ -10,19 +10,18 @@ ghost use Rattle.sync_model.specs.Moves.{acking, acknowledged, fetching, move};
 ghost use Rattle.sync_model.specs.Parties.{Party};
 ghost use Rattle.client.specs.Clients.{IsOpenOn};
 ghost use Rattle.client.specs.Drafting.{DraftsFor, IsReceivedOf};
-ghost use Rattle.client.specs.Syncing.Moments.{IsAnswerWritten, moment};
-ghost use Rattle.client.specs.Syncing.Parties.{is_inbox_full, is_no_room, party_of, waiting};
+ghost use Rattle.client.specs.Syncing.Moments.{moment};
+ghost use Rattle.client.specs.Syncing.Parties.{party_of, waiting};
 ghost use Rattle.client.specs.Syncing.Rounds.{Hears, Idles, IsRound, MovesTo, fetched_as, round_turn};
-ghost use Rattle.client.specs.Syncing.Lines.{answer_line};
 ghost use Rattle.client.specs.Syncing.InOrder.{Collects, spot};
 
 use super::faults::{SyncFault, SyncRefusal, WRONG};
-use super::lines::write_answer;
+use super::lines::answered;
 use super::naming::Names;
 use super::steps::ask_for;
 use crate::client::Client;
 use dr_disk::Disk;
-use dr_ports::{Failed, Pipe, Sink};
+use dr_ports::{Pipe, Sink};
 use kem_laws::Kem;
 use ratchet::{OpeningRoom, ReceiveDraft};
 use relay_wire::{Reply, Request};
@@ -41,41 +40,6 @@ fn acknowledged(reply: Reply<'_>, number: u64) -> Result<(), SyncFault>
         Reply::Absent(other) => { if other == number { Ok(()) } else { Err(WRONG) } }
         Reply::Unknown => Err(SyncFault::Refused(SyncRefusal::Unknown)),
         _ => Err(WRONG),
-    }
-}
-
-/// Whether a refusal says that the inbox is full.
-fn is_no_room(refusal: Refusal) -> bool
-    ensures { result ≡ is_no_room refusal }
-{
-    match refusal {
-        Refusal::InboxFull => true,
-        _ => false,
-    }
-}
-
-/// Whether there was no room for the text of a packet.
-fn is_full(answer: Answer) -> bool
-    ensures { result ≡ is_inbox_full answer }
-{
-    match answer {
-        Answer::Refused(refusal) => is_no_room(refusal),
-        _ => false,
-    }
-}
-
-/// Writes the answer to a packet, if there was room for its text.
-fn answered<O: Sink>(out: &mut O, prefix: &str, answer: Answer) -> Result<(), SyncFault>
-    ensures answers { IsAnswerWritten (answer_line prefix.now answer) (is_inbox_full answer) (O.at out.old)
-        (O.at out.new) result }
-    ensures later { (O.at out.old).faults ≤ (O.at out.new).faults }
-{
-    if is_full(answer) {
-        return Err(SyncFault::Refused(SyncRefusal::InboxFull));
-    }
-    match write_answer(out, prefix, answer) {
-        Err(Failed) => Err(SyncFault::Write),
-        Ok(()) => Ok(()),
     }
 }
 

@@ -12,8 +12,8 @@ use dr_disk::Disk;
 use dr_ports::Pipe;
 
 /// The sender's sync and then its peer's, by the replies of one relay: the texts that waited go
-/// over, in order, each once. What each sync owes to it are the clauses `transfer` and `opens` of
-/// `Client::sync`.
+/// over, in order, each once. What each sync owes to it are the fields `transfer` and `opens` of
+/// `HasDone`, which `Client::sync` gives in its clause `syncs`.
 pub fn goes_over()
     ensures { (k : Mechanism) → GoesOver k }
 {}

@@ -1,21 +1,13 @@
 //! A whole sync.
 
-ghost use Rattle.std.specs.Prelude.{◌≡◌, ◌≤◌, List, None, Some, Err};
-ghost use Rattle.dr_base.specs.declared.position.Side.{Side};
+ghost use Rattle.std.specs.Prelude.{◌≡◌, ◌≤◌, None, Some, Err};
 ghost use Rattle.dr_disk.specs.declared.call.Call.{Call};
-ghost use Rattle.dr_model.specs.Machines.Worlds.{World};
-ghost use Rattle.dr_ports.specs.declared.pipe.Part.TheVariants.{Flow, Gate};
 ghost use Rattle.relay_pipe.specs.Asking.{LeavesLink};
-ghost use Rattle.relay_wire.specs.Replies.{Replied};
 ghost use Rattle.client.specs.Clients.{IsOpenOn, MayActOn};
-ghost use Rattle.client.specs.InWorlds.{IsIn};
-ghost use Rattle.client.specs.Syncing.Arrivals.{OpensArrived};
-ghost use Rattle.client.specs.Syncing.InWorlds.{AreUnforged, SyncSpends, SyncsIn};
 ghost use Rattle.client.specs.Syncing.InOrder.{SyncsInOrder, spot};
 ghost use Rattle.client.specs.Syncing.Moments.{moment};
 ghost use Rattle.client.specs.Syncing.Parties.{client_party, party_of};
-ghost use Rattle.client.specs.Syncing.Syncs.{Syncs, SyncsBy};
-ghost use Rattle.client.specs.Syncing.Transfers.{Carries, Transfers};
+ghost use Rattle.client.specs.Syncing.Whole.{IsSyncOf};
 
 use super::faults::SyncFault;
 use super::lines::write_end;
@@ -48,9 +40,8 @@ impl<K: Kem> Client<K> {
             → (result ≡ Err (SyncFault.Closed call))
             × (self.new ≡ self.old) × (disk.new ≡ disk.old) × (link.new ≡ link.old)
             × (out.new ≡ out.old) }
-        // Else exactly this, by how it ends.
-        ensures exact { self.old.closed ≡ None
-            → Syncs (client_party K.mechanism prefix.now self.old.kept)
+        // Else exactly this, by how it ends, and what comes of the replies that were read.
+        ensures syncs { self.old.closed ≡ None → IsSyncOf K.mechanism prefix.now
             (moment self.old (D.state disk.old) (O.at out.old))
             (moment self.new (D.state disk.new) (O.at out.new))
             (L.port link.old) (L.port link.new) result }
@@ -61,58 +52,8 @@ impl<K: Kem> Client<K> {
             (client_party K.mechanism prefix.now self.old.kept)
             (spot self.old disk.old link.old out.old) (spot self.new disk.new link.new out.new)
             result }
-        // And in each world that the client stands for, where no packet that is taken is forged.
-        ensures in_worlds { (w : World) (side : Side) (replies : List Replied)
-            → IsIn K.mechanism w side self.old
-            → SyncsBy (client_party K.mechanism prefix.now self.old.kept) replies
-            (moment self.old (D.state disk.old) (O.at out.old))
-            (moment self.new (D.state disk.new) (O.at out.new))
-            (L.port link.old) (L.port link.new) result
-            → AreUnforged K.mechanism prefix.now side w replies
-            → SyncsIn K.mechanism prefix.now side w replies
-            (moment self.old (D.state disk.old) (O.at out.old))
-            (moment self.new (D.state disk.new) (O.at out.new)) result }
-        // There, once a packet was opened, its key is used up, and nothing that a crash leaves
-        // gives it.
-        ensures spent { (w : World) (side : Side) (replies : List Replied)
-            → IsIn K.mechanism w side self.old
-            → SyncsBy (client_party K.mechanism prefix.now self.old.kept) replies
-            (moment self.old (D.state disk.old) (O.at out.old))
-            (moment self.new (D.state disk.new) (O.at out.new))
-            (L.port link.old) (L.port link.new) result
-            → AreUnforged K.mechanism prefix.now side w replies
-            → SyncSpends K.mechanism prefix.now side w replies (D.state disk.new) result }
-        // By the replies that were read, where they are those of a relay with these boxes: the own
-        // box is collected, and the outbox delivered.
-        ensures transfer { self.old.closed ≡ None → (replies : List Replied)
-            → SyncsBy (client_party K.mechanism prefix.now self.old.kept) replies
-            (moment self.old (D.state disk.old) (O.at out.old))
-            (moment self.new (D.state disk.new) (O.at out.new))
-            (L.port link.old) (L.port link.new) result
-            → Transfers (client_party K.mechanism prefix.now self.old.kept) self.old.kept replies }
-        // And in each world that the client stands for, what the box holds of the peer's packets is
-        // opened, in order, each once.
-        ensures opens { self.old.closed ≡ None → (replies : List Replied)
-            → SyncsBy (client_party K.mechanism prefix.now self.old.kept) replies
-            (moment self.old (D.state disk.old) (O.at out.old))
-            (moment self.new (D.state disk.new) (O.at out.new))
-            (L.port link.old) (L.port link.new) result
-            → OpensArrived K.mechanism prefix.now self.old.kept replies }
-        // So they are over a link that tells that it carries a relay's replies, where no call
-        // fails.
-        ensures carries { self.old.closed ≡ None → (replies : List Replied)
-            → SyncsBy (client_party K.mechanism prefix.now self.old.kept) replies
-            (moment self.old (D.state disk.old) (O.at out.old))
-            (moment self.new (D.state disk.new) (O.at out.new))
-            (L.port link.old) (L.port link.new) result
-            → Carries (client_party K.mechanism prefix.now self.old.kept) replies
-            (moment self.old (D.state disk.old) (O.at out.old))
-            (moment self.new (D.state disk.new) (O.at out.new))
-            (L.port link.old) (L.port link.new) }
         ensures later { (O.at out.old).faults ≤ (O.at out.new).faults }
-        ensures flow { (L.port link.old).faults Flow ≤ (L.port link.new).faults Flow }
-        ensures gate { (L.port link.new).faults Gate ≡ (L.port link.old).faults Gate }
-        ensures stands { L.behind link.new ≡ L.behind link.old }
+        ensures link { LeavesLink L.port L.behind link.old link.new }
     {
         grounds::<K>();
         if let Some(call) = self.closed {

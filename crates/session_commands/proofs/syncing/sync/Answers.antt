@@ -57,11 +57,13 @@ close-requires g c =
     near_result (client_party g.K.Kem.mechanism [] c.in-Ok.client.kept)
     (moment c.in-Ok.client (g.D.Disk.state c.open.new.disk) (g.O.Sink.at c.args.out.now))
     (moment c.sync-synced.new.self (g.D.Disk.state c.sync-synced.new.disk) (g.O.Sink.at c.sync-synced.new.out))
-    (g.L.Pipe.port c.open-in-Ok.new.self) (g.L.Pipe.port c.sync-synced.new.link) c.sync-synced.result (c.sync-synced.ensures.exact c.in-Ok.ensures.opened.is_open)
+    (g.L.Pipe.port c.open-in-Ok.new.self) (g.L.Pipe.port c.sync-synced.new.link) c.sync-synced.result (c.sync-synced.ensures.syncs c.in-Ok.ensures.opened.is_open).exact
 
 pub returns : goal.returns
 returns g c =
-    let syncs = c.sync-synced.ensures.exact c.in-Ok.ensures.opened.is_open in
+    let whole = c.sync-synced.ensures.syncs c.in-Ok.ensures.opened.is_open in
+    let syncs = whole.exact in
+    let done = whole.done syncs.replies syncs.syncs in
     let ends : EndsSync (client_party g.K.Kem.mechanism [] c.in-Ok.client.kept) syncs.replies
     (moment c.in-Ok.client (g.D.Disk.state c.open.new.disk) (g.O.Sink.at c.args.out.now))
     (moment c.sync-synced.new.self (g.D.Disk.state c.sync-synced.new.disk) (g.O.Sink.at c.sync-synced.new.out))
@@ -72,8 +74,8 @@ returns g c =
         lines = lines_of_sync (client_party g.K.Kem.mechanism [] c.in-Ok.client.kept) c.in-Ok.client.kept syncs.replies c.sync-synced.result;
         came =
             was_synced c.in-Ok.client.kept syncs.replies c.sync-synced.result c.in-Ok.ensures.opened.read syncs.syncs.lawful
-            (c.sync-synced.ensures.transfer c.in-Ok.ensures.opened.is_open syncs.replies syncs.syncs)
-            (c.sync-synced.ensures.opens c.in-Ok.ensures.opened.is_open syncs.replies syncs.syncs)
+            done.transfer
+            done.opens
             (leaves_course g.K.Kem.mechanism (g.D.Disk.state c.args.disk.now) (g.D.Disk.state c.open.new.disk) (g.D.Disk.state c.sync-synced.new.disk) (g.met.D.Disk.lawful c.sync-synced.new.disk)
             (client_party g.K.Kem.mechanism [] c.in-Ok.client.kept) c.in-Ok.client.kept syncs.replies c.open.ensures.any_moment c.in-Ok.ensures.opened.alike syncs.syncs.passed)
             (record {
@@ -88,13 +90,13 @@ returns g c =
                   (g.O.Sink.at c.args.out.now) (g.O.Sink.at c.sync-synced.new.out)
                   (g.O.Sink.at c.close.new.out).faults refl c.in-Ok.ensures.opened.quiet c.close.ensures.later c.sync-synced.result ends;
             })
-            (c.shut.ensures.shuts.gate ∙ c.sync-synced.ensures.gate ∙ c.in-Ok-open.ensures.cause.passed)
+            (c.shut.ensures.shuts.gate ∙ c.sync-synced.ensures.link.gate ∙ c.in-Ok-open.ensures.cause.passed)
             (λ w side lawful stands fair. let opens = c.in-Ok.ensures.in_worlds w side lawful stands in
             sync_runs g.K.Kem.mechanism (g.D.Disk.state c.args.disk.now) (g.D.Disk.state c.open.new.disk) (g.D.Disk.state c.sync-synced.new.disk) (g.met.D.Disk.lawful c.sync-synced.new.disk)
             side w syncs.replies c.in-Ok.client c.sync-synced.new.self
             (g.O.Sink.at c.args.out.now) (g.O.Sink.at c.sync-synced.new.out)
             (client_party g.K.Kem.mechanism [] c.in-Ok.client.kept) (g.L.Pipe.port c.open-in-Ok.new.self) (g.L.Pipe.port c.sync-synced.new.link) c.sync-synced.result opens c.open.ensures.any_moment c.in-Ok.ensures.opened.alike ends
-            (c.sync-synced.ensures.in_worlds w side syncs.replies opens.client.0 syncs.syncs fair));
+            (done.in_worlds w side opens.client.0 fair));
         ends =
             c.close.ensures.ends (lines_of_sync (client_party g.K.Kem.mechanism [] c.in-Ok.client.kept) c.in-Ok.client.kept syncs.replies c.sync-synced.result) (g.O.Sink.at c.args.out.now)
             (has_written (client_party g.K.Kem.mechanism [] c.in-Ok.client.kept) syncs.replies
@@ -103,17 +105,17 @@ returns g c =
             (g.L.Pipe.port c.open-in-Ok.new.self) (g.L.Pipe.port c.sync-synced.new.link) c.sync-synced.result ends);
       };
       quiet = λ zero.
-          let done = c.close.ensures.done zero in
+          let closed = c.close.ensures.done zero in
           let quiet =
           done_quiet (client_party g.K.Kem.mechanism [] c.in-Ok.client.kept)
           (moment c.in-Ok.client (g.D.Disk.state c.open.new.disk) (g.O.Sink.at c.args.out.now))
           (moment c.sync-synced.new.self (g.D.Disk.state c.sync-synced.new.disk) (g.O.Sink.at c.sync-synced.new.out))
-          (g.L.Pipe.port c.open-in-Ok.new.self) (g.L.Pipe.port c.sync-synced.new.link) c.sync-synced.result done.0 syncs done.1 in (
+          (g.L.Pipe.port c.open-in-Ok.new.self) (g.L.Pipe.port c.sync-synced.new.link) c.sync-synced.result closed.0 syncs closed.1 in (
             (
               quiet_twice (g.D.Disk.state c.args.disk.now) (g.D.Disk.state c.open.new.disk) (g.D.Disk.state c.sync-synced.new.disk) c.in-Ok.ensures.opened.quiet quiet.0,
               each_part (g.L.Pipe.port c.args.link.now).faults (g.L.Pipe.port c.shut.new.self).faults
                   (c.shut.ensures.shuts.flow ∙ quiet.2 ∙ c.in-Ok-open.ensures.flow)
-                  (c.shut.ensures.shuts.gate ∙ c.sync-synced.ensures.gate ∙ c.in-Ok-open.ensures.cause.passed),
+                  (c.shut.ensures.shuts.gate ∙ c.sync-synced.ensures.link.gate ∙ c.in-Ok-open.ensures.cause.passed),
             ),
             c.close.ensures.quiet zero ∙ quiet.1,
           );

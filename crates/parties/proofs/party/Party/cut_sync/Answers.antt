@@ -30,7 +30,7 @@ open-requires g c =
     let by = c.crash-left.ensures.left in
     let lawful = lawful_disk c.sync-ended.new.disk in
     let long = lawful.sized by.bytes (lawful.leaves_now c.args.mode by.bytes by.left) in
-    omega (arith, ready.within, by.fresh.size, long, (c.sync-ended.ensures.exact held.is_open).syncs.passed.size)
+    omega (arith, ready.within, by.fresh.size, long, (c.sync-ended.ensures.syncs held.is_open).exact.syncs.passed.size)
 
 pub returns-in-Ok-clause-cut : goal.returns-in-Ok-clause-cut
 returns-in-Ok-clause-cut g c =
@@ -42,7 +42,7 @@ returns-in-Ok-clause-cut g c =
     (ready_stopped c.args.after client.kept client.store disk held.ready) in
     let by = c.crash-left.ensures.left in
     let image = (lawful_disk c.sync-ended.new.disk).leaves_now c.args.mode by.bytes by.left in
-    let syncs = c.sync-ended.ensures.exact held.is_open in
+    let syncs = (c.sync-ended.ensures.syncs held.is_open).exact in
     let cut = cut_off k c.side_prefix.result.now (moment client (state_of c.stop_after.new.self) (g.O.Sink.at c.args.out.now))
     (moment c.sync-ended.new.self (state_of c.sync-ended.new.disk) (g.O.Sink.at c.sync-ended.new.out)) ready
     syncs.replies syncs.syncs.passed by.bytes image c.in-Ok.client.kept (c.in-Ok.ensures.opened.read by.bytes by.fresh.seen) in

@@ -1,6 +1,6 @@
 use Rattle.std.proofs.Common.{refl, sym, ◌∙◌}
 use Rattle.client.specs.Syncing.Moments.{had_no_room, was_cut, was_written}
-use Rattle.client.proofs.syncing.collecting.answered.Goals as goal
+use Rattle.client.proofs.syncing.lines.answered.Goals as goal
 
 pub returns-then-is_full-clause-answers : goal.returns-then-is_full-clause-answers
 returns-then-is_full-clause-answers g c = had_no_room (sym c.is_full.ensures ∙ c.if-is_full.true) refl refl
