@@ -5,11 +5,8 @@
 pub use relay_server::HALF_SIZE;
 pub use relaying::{RELAY_DISK_SIZE, relay};
 
-// Laws: functions without code.
-pub use law::{complete, crashes, limits_in_numbers};
-
 mod connecting;
-mod law;
+pub mod laws;
 mod lines;
 mod names;
 mod relaying;

@@ -22,14 +22,10 @@ pub use loading::Loaded;
 pub use relay::Relay;
 pub use spec::BoxSpec;
 
-// Laws: functions without code.
-pub use law::{changes, isolation, lawfulness, records};
-pub use limits::limits_in_numbers;
-
 mod answering;
 mod checking;
 mod kept_packet;
-mod law;
+pub mod laws;
 mod limits;
 mod loading;
 mod mailbox;

@@ -9,7 +9,8 @@ ghost use Rattle.relay_server.specs.Places.{HasBoxMemory, IsBoxRoom};
 use crate::areas::FIRST_AREA;
 use crate::limits::RECORD_PAGES;
 use dr_base::PAGE;
-use relay_core::{Relay, records};
+use relay_core::Relay;
+use relay_core::laws::records;
 use slot_store::lengthen;
 
 /// Writes the record of the box at a place at the beginning of a text, which is made long enough

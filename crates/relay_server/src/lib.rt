@@ -18,16 +18,12 @@ pub use relay_core::{Answered, BoxSpec};
 pub use server::{Looked, Server};
 pub use serving::{Ended, Round, ServeFault};
 
-// Laws: functions without code.
-pub use law::{crashes, lower_halves, opens_again, stays_undamaged};
-pub use limits::limits_in_numbers;
-
 mod answering;
 mod areas;
 mod durable;
 mod errors;
 mod filling;
-mod law;
+pub mod laws;
 mod limits;
 mod opening;
 mod server;

@@ -1,5 +1,5 @@
-//! What follows of the commands' clauses. The functions have no code: a caller that needs the fact
-//! calls one.
+//! The laws of the commands: what follows of their clauses, over runs of them too, and their limits.
+//! The functions have no code: a caller that needs a fact calls one.
 
 ghost use Rattle.std.specs.Prelude.{ℕ, List, ◌≡◌, ◌⊎◌};
 ghost use Rattle.dr_base.specs.declared.position.Side.{Side};
@@ -19,6 +19,9 @@ ghost use Rattle.session_commands.specs.Showing.{RunsShow};
 ghost use Rattle.session_commands.specs.SyncCompleting.{AnswersClient, NoneFailedOver, SyncedToEnd};
 ghost use Rattle.session_commands.specs.Syncing.{RunsSync};
 
+pub use crate::histories::{crashes_are_links, reads_known, runs_are_links, stays_whole};
+pub use crate::input::limits_in_numbers;
+pub use crate::whole_runs::{runs_are_linked, talk};
 use dr_disk::Disk;
 use dr_ports::{Draws, Link};
 

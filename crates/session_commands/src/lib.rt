@@ -15,19 +15,13 @@ pub use showing::show;
 pub use syncing::sync;
 pub use taking::take;
 
-// Laws: functions without code.
-pub use histories::{crashes_are_links, reads_known, runs_are_links, stays_whole};
-pub use input::limits_in_numbers;
-pub use laws::{complete, syncs_to_end};
-pub use whole_runs::{runs_are_linked, talk};
-
 mod beginning;
 mod checking;
 mod dropping;
 mod endings_of;
 mod histories;
 mod input;
-mod laws;
+pub mod laws;
 mod saying;
 mod showing;
 mod syncing;

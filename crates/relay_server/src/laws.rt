@@ -1,4 +1,5 @@
-//! The laws of what a crash leaves, of opening after it, and of disks of lower halves alone.
+//! The laws of what a crash leaves, of opening after it, of disks of lower halves alone, and of this
+//! crate's limits. The functions have no code: a caller that needs a fact calls them.
 
 ghost use Rattle.std.specs.Prelude.{◌≡◌, List, Option, length, slice_get, ℕ};
 ghost use Rattle.dr_disk.specs.State.{Always};
@@ -11,6 +12,7 @@ ghost use Rattle.relay_server.specs.Reading.{AreUndamaged, KeepsUndamaged, Stand
 ghost use Rattle.relay_server.specs.Reopening.{OpensAgain, ReadsBoxes, StaysUndamaged, names_of_boxes};
 ghost use Rattle.relay_server.specs.Serving.{Reached, StandsForPart};
 
+pub use crate::limits::limits_in_numbers;
 use dr_disk::Disk;
 use dr_ports::Pipe;
 use slot_store::{resting, widening};

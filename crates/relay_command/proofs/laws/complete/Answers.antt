@@ -1,5 +1,5 @@
 use Rattle.relay_command.proofs.Completing.{relay_completes}
-use Rattle.relay_command.proofs.law.complete.Goals as goal
+use Rattle.relay_command.proofs.laws.complete.Goals as goal
 
 pub returns : goal.returns
 returns g c = λ words port count code ending lines may none relays.

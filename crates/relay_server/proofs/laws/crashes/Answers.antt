@@ -1,7 +1,7 @@
 use Rattle.relay_core.specs.declared.limits.TheConstants.{EXCHANGE_LIMIT}
 use Rattle.relay_core.proofs.Apart.{isolated_within}
 use Rattle.relay_server.proofs.Sent.{moment_stands}
-use Rattle.relay_server.proofs.law.crashes.Goals as goal
+use Rattle.relay_server.proofs.laws.crashes.Goals as goal
 
 pub returns-clause-whenever : goal.returns-clause-whenever
 returns-clause-whenever g c = λ boxes got image r. record {

@@ -1,4 +1,5 @@
-//! The laws of boxes.
+//! The laws of boxes, and of this crate's limits. The functions have no code: a caller that needs a
+//! fact calls them.
 
 ghost use Rattle.std.specs.Prelude.{◌≡◌, ℕ, List, Result, Ok, All};
 ghost use Rattle.dr_base.specs.Bytes.{AreBytes};
@@ -9,6 +10,8 @@ ghost use Rattle.relay_core.specs.Record.{box_read, box_text};
 ghost use Rattle.relay_core.specs.Streams.{IsIsolated, served};
 ghost use Rattle.relay_wire.specs.Replies.{IsLawfulReplied};
 ghost use Rattle.relay_wire.specs.Requests.{Asked};
+
+pub use crate::limits::limits_in_numbers;
 
 /// Each box answers by itself: over every stream, its replies hang on it and on the requests for it
 /// alone.

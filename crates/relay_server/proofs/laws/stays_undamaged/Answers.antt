@@ -1,5 +1,5 @@
 use Rattle.relay_server.proofs.Reopening.{each_undamaged, serving_undamaged}
-use Rattle.relay_server.proofs.law.stays_undamaged.Goals as goal
+use Rattle.relay_server.proofs.laws.stays_undamaged.Goals as goal
 
 pub returns-clause-opening : goal.returns-clause-opening
 returns-clause-opening g c = λ names start image opening. (opening.entry, opening.image, opening.undamaged)

@@ -1,6 +1,6 @@
 use Rattle.relay_server.proofs.Reopening.{opens_again, stands_opening}
 use Rattle.relay_server.proofs.Replacing.{ready_stands}
-use Rattle.relay_server.proofs.law.opens_again.Goals as goal
+use Rattle.relay_server.proofs.laws.opens_again.Goals as goal
 
 pub returns-clause-at_rest : goal.returns-clause-at_rest
 returns-clause-at_rest g c = λ server ready. ready_stands server (g.D.Disk.state c.args.before.now) ready c.resting.ensures

@@ -1,5 +1,5 @@
 use Rattle.relay_core.proofs.BoxGrammar.{record_grammar}
-use Rattle.relay_core.proofs.law.records.Goals as goal
+use Rattle.relay_core.proofs.laws.records.Goals as goal
 
 pub returns-clause-printed_is_read : goal.returns-clause-printed_is_read
 returns-clause-printed_is_read c = record_grammar.reads

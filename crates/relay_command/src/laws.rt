@@ -1,4 +1,5 @@
-//! The laws of the command: what a crash leaves, and where it does its work.
+//! The laws of the command: what a crash leaves, where it does its work, and its limits. The
+//! functions have no code: a caller that needs a fact calls them.
 
 ghost use Rattle.std.specs.Prelude.{List, ℕ, ◌≡◌, ◌⊎◌};
 ghost use Rattle.endings.specs.declared.ending.Ending.{Ending};
@@ -12,7 +13,7 @@ ghost use Rattle.relay_command.specs.Relaying.{Relays};
 
 use dr_disk::Disk;
 use dr_ports::Door;
-use relay_server::crashes as crashes_in_one;
+use relay_server::laws::crashes as crashes_in_one;
 
 /// At a moment of a connection at which the replies to its first n frames were sent whole, and no
 /// other, each image has, box by box, the box as the connections before it left it, after the
