@@ -1,13 +1,13 @@
-//! Two sides of one conversation, each on a disk of its own: Second says a text, and First takes
-//! its packet, shows the text and answers. The disks are in memory, so that each run is the same; a
-//! program that keeps its sessions has a `FileDisk` in their place, as `messenger` does.
+//! Two sides of one conversation, each on a file of its own in the current folder: Second says a
+//! text, and First takes its packet, shows the text and answers.
 #![tactic(auto)]
 
 use bodies::Format;
 use client::{AREA_SIZE, Client};
 use dr_base::{Key32, Side};
-use dr_disk::{Disk, MemoryDisk};
+use dr_disk::Disk;
 use dr_ports::RandomDraws;
+use file_disk::{FileDisk, Sharing};
 use rand::rngs::SysRng;
 use sntrup761::Sntrup761;
 use std::io;
@@ -16,12 +16,8 @@ fn main(rt: HostRuntime) -> io::Result<()> {
     // 32 random bytes that both share, in a real program
     let key = Key32 { bytes: [7; 32] };
     let mut draws = RandomDraws::new(SysRng::new(&rt));
-    let (Ok(mut disk), Ok(mut other)) = (
-        MemoryDisk::new(rt.alloc(), AREA_SIZE),
-        MemoryDisk::new(rt.alloc(), AREA_SIZE),
-    ) else {
-        return println!(rt; "no memory");
-    };
+    let mut disk = FileDisk::new(&rt, "second.state", AREA_SIZE, AREA_SIZE, Sharing::InTurn);
+    let mut other = FileDisk::new(&rt, "first.state", AREA_SIZE, AREA_SIZE, Sharing::InTurn);
     if disk.size() < AREA_SIZE || other.size() < AREA_SIZE {
         return println!(rt; "a disk is too small");
     }
