@@ -7,6 +7,7 @@ pub mod Unnamed
 pub mod Calls
 pub mod NextCalls
 pub mod Looking
+pub mod Counting
 pub mod Written
 pub mod Committed
 pub mod Stopping

@@ -6,6 +6,7 @@ pub mod Around
 pub mod Snapshots
 pub mod Writing
 pub mod Runs
+pub mod Counted
 pub mod Finds
 pub mod Stops
 pub mod Commits

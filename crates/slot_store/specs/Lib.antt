@@ -1,4 +1,5 @@
 pub mod Areas
+pub mod Limits
 pub mod Memory
 pub mod Records
 pub mod Reading

@@ -5,11 +5,13 @@ use Rattle.dr_disk.specs.Spans.{Span}
 use Rattle.dr_disk.specs.declared.call.Call.{Call}
 use Rattle.dr_disk.specs.Called.{Went, itself}
 use Rattle.pages.specs.Runs.{IsUntouched}
+use Rattle.pages.specs.Counted.{MakesAtMost, one_of}
 use Rattle.pages.specs.Snapshots.{kept_shot}
 use Rattle.pages.specs.Judged.{AreTablesRead as ArePairRead}
 use Rattle.pages.specs.Tables.{Table}
 use Rattle.slot_store.specs.declared.pager.Pager.{Pager}
 use Rattle.slot_store.specs.Areas.{Area, layout_of}
+use Rattle.slot_store.specs.Limits.{settlings}
 use Rattle.slot_store.specs.Layout.{laid}
 use Rattle.slot_store.specs.Reading.{IsLikeRead}
 use Rattle.slot_store.specs.Records.{shot_in}
@@ -52,3 +54,4 @@ pub record Settles {T : Type 0} (pager : Pager) (start now : DiskState)
   pub settled : OnOk result (IsSettled now)
   pub calls : Went itself start now result
   pub still : IsAtRestAsRead pager start → IsUntouched start now
+  pub few : MakesAtMost (settlings pager.area) one_of start now result

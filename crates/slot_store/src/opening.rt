@@ -5,6 +5,8 @@ ghost use Rattle.std.specs.Prelude.{◌≡◌, ◌≢◌, IfErr, IfOk, OnOk};
 ghost use Rattle.dr_disk.specs.declared.call.Call.{Call};
 ghost use Rattle.dr_disk.specs.State.{Fate, OnSeen};
 ghost use Rattle.dr_disk.specs.Spans.{FailsLater, IsQuiet, Span};
+ghost use Rattle.pages.specs.Counted.{MakesAtMost};
+ghost use Rattle.slot_store.specs.Limits.{faulted, openings};
 ghost use Rattle.slot_store.specs.Reading.{IsEntryOrLike, IsLikeRead};
 ghost use Rattle.slot_store.specs.AtRest.{IsLeft, IsReadAtRest};
 ghost use Rattle.slot_store.specs.Found.{HasReadContent};
@@ -80,6 +82,10 @@ impl SlotStore {
 
         // An area that was read at rest is left as it is, after one sync.
         ensures still { IsReadAtRest area (D.state disk.old) → IsLeft
+            (D.state disk.old) (D.state disk.new) result }
+
+        // However it ends, writes and syncs are bounded, the one that failed among them.
+        ensures few { MakesAtMost (openings area) faulted
             (D.state disk.old) (D.state disk.new) result }
 
         // Each refusal has its cause.

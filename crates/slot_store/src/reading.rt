@@ -10,6 +10,7 @@ ghost use Rattle.dr_disk.specs.Called.{Went, itself};
 ghost use Rattle.pages.specs.Layouts.{table_place};
 ghost use Rattle.pages.specs.Tables.{table_at};
 ghost use Rattle.slot_store.specs.Areas.{layout_of};
+ghost use Rattle.pages.specs.Counted.{MakesAtMost, one_of};
 ghost use Rattle.pages.specs.Finds.{Finds};
 ghost use Rattle.pages.specs.Judged.{table_with};
 ghost use Rattle.slot_store.specs.Scratch.{HasTables, IsScratch};
@@ -99,6 +100,7 @@ pub(crate) fn settle_and_read<D: Disk>(
     ensures settled { OnOk result (IsSettled (D.state disk.new)) }
     ensures passed { OnOk result (HavePassed 1 (D.state disk.old) (D.state disk.new)) }
     ensures calls { Went itself (D.state disk.old) (D.state disk.new) result }
+    ensures few { MakesAtMost 1 one_of (D.state disk.old) (D.state disk.new) result }
 {
     let Ok(()) = settle_first(disk) else {
         return Err(Call::Sync);

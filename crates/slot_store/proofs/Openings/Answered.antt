@@ -1,5 +1,5 @@
 -- What callers are told of an area that was opened.
-use Rattle.std.proofs.Common.{◌≡◌, ◌≢◌, inl, inr, ⊎_elim, ℕ, List, Option, Result, Ok, Err, OnOk, true, false, sym, ◌∙◌, ap₂, subst}
+use Rattle.std.proofs.Common.{◌≡◌, ◌≢◌, inl, inr, ⊎_elim, ℕ, List, Option, Result, Ok, Err, OnOk, true, false, sym, ◌∙◌, ap₂, subst, arith}
 use Rattle.std.specs.Prelude.{IfErr, IfOk, is_ok}
 use Rattle.dr_base.specs.Causes.{Rose}
 use Rattle.dr_disk.specs.declared.call.Call.{Call}
@@ -10,6 +10,8 @@ use Rattle.dr_disk.specs.Called.{Went, itself}
 use Rattle.dr_disk.proofs.Calling.{then_any}
 use Rattle.dr_disk.proofs.Steps.{spans, widen}
 use Rattle.pages.specs.Runs.{IsUntouched}
+use Rattle.pages.specs.Counted.{MakesAtMost, one_of}
+use Rattle.pages.proofs.Counting.{few_failed, few_then}
 use Rattle.pages.proofs.Looking.{unwritten_twice}
 use Rattle.slot_store.specs.declared.errors.OpenError.TheVariants.{Damaged, Memory, StoreFault}
 use Rattle.slot_store.specs.declared.outcome.Outcome.{Outcome}
@@ -17,6 +19,7 @@ use Rattle.slot_store.specs.declared.outcome.Outcome.TheVariants.{Refused, Store
 use Rattle.slot_store.specs.Areas.{Area}
 use Rattle.slot_store.specs.AtRest.{IsLeft, IsReadAtRest}
 use Rattle.slot_store.specs.Found.{HasReadContent}
+use Rattle.slot_store.specs.Limits.{faulted, openings, settlings}
 use Rattle.slot_store.specs.Opened.{IsOpened, IsRefused}
 use Rattle.slot_store.specs.Outcome.{IsOutcome, IsOutcomeBy, OpensStore, opening_answer}
 use Rattle.slot_store.specs.Store.{content}
@@ -31,6 +34,18 @@ refused_by fault_at area start now call went = record {
   fault = λ other is. let e : call ≡ other = cc in subst (λ x. Rose (start.faults x) (now.faults x)) e went.fault;
   ended = λ other is. went.ended;
 }
+
+pub faulted_few : {T U : Type 0} (area : Area) (call : Call) (start now : DiskState)
+    → MakesAtMost {T = U} 1 one_of start now (Err call)
+    → MakesAtMost {T = T} (openings area) faulted start now (Err (StoreFault call))
+faulted_few {T = T} {U = U} area call start now few = record {
+  told = (few_failed {T = T} {U = U} 1 (openings area) call start now (omega arith) few).told;
+}
+
+-- where there was no memory
+pub memory_few : {T : Type 0} (area : Area) (start : DiskState)
+    → MakesAtMost {T = T} (openings area) faulted start start (Err Memory)
+memory_few area start = record { told = λ m is. (m, is, omega arith) }
 
 -- who read the record has read the store's
 pub answered_read : {R : Type 0} (has_read : R → List ℕ → Type 0) (old new : R) (r : Result Outcome Call)
@@ -134,6 +149,16 @@ module _ {U : Type 0} (fault_at : List ℕ → Option ℕ) (area : Area) (start 
       by (Ok (Stored pager what)) is = is
       by (Ok (Refused slot at)) is = tt
       by (Err call) is = tt
+
+  pub answered_few : MakesAtMost 1 one_of start a (Ok x)
+      → MakesAtMost (openings area) faulted start b (opening_answer r)
+  answered_few first = by r (few_then 1 (settlings area) (openings area) x start a b r (omega arith) first opens.few)
+    where
+      by : (r : Result Outcome Call) → MakesAtMost (openings area) one_of start b r
+          → MakesAtMost (openings area) faulted start b (opening_answer r)
+      by (Ok (Stored pager what)) few = record { told = few.told }
+      by (Ok (Refused slot at)) few = record { told = few.told }
+      by (Err call) few = record { told = few.told }
 
   pub answered_ahead : OnOk (opening_answer r) (FailsLater start b)
   answered_ahead = by r all_went.ahead

@@ -1,16 +1,14 @@
 -- No table was read open.
-use Rattle.std.proofs.Common.{◌≡◌, ℕ, false, true, List, Option, Some, None, sym, ◌∙◌, ap, ap₂}
-use Rattle.dr_disk.specs.State.{DiskState, OnSeen}
+use Rattle.std.proofs.Common.{◌≡◌, ℕ, true, List, Option, Some, None, sym, ◌∙◌, ap}
 use Rattle.pages.specs.Snapshots.{kept_shot, shot_of, snapshot}
-use Rattle.pages.specs.Tables.{TableStanding, Table, alike, none_open, tables_standing, standing_of, table_at}
+use Rattle.pages.specs.Tables.{alike, none_open, tables_standing}
 use Rattle.record_pages.specs.Tables.{record_names}
 use Rattle.slot_store.specs.declared.pager.Pager.{Pager}
 use Rattle.slot_store.specs.Areas.{Area, layout_of}
-use Rattle.pages.specs.Judged.{table_with}
 use Rattle.slot_store.specs.Layout.{laid}
 use Rattle.slot_store.specs.Reading.{damaged, read_as, area_reading, reading_of}
 use Rattle.slot_store.specs.Records.{shot_in}
-use Rattle.slot_store.specs.Settling.{AreTablesRead, HasShot}
+use Rattle.slot_store.specs.Settling.{HasShot}
 use Rattle.slot_store.specs.Pager.{content, mark}
 use Rattle.slot_store.proofs.Wipings.Settled.{has_none}
 

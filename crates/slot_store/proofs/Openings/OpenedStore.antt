@@ -1,5 +1,5 @@
 -- A pager that was opened over what was read.
-use Rattle.std.proofs.Common.{◌≡◌, ℕ, true, false, List, Option, Some, None, Result, Ok, Err, OnOk, refl, sym, ◌∙◌, ap, subst}
+use Rattle.std.proofs.Common.{◌≡◌, ℕ, true, false, List, Option, Some, None, Result, Ok, Err, OnOk, refl, sym, ◌∙◌, ap, subst, arith}
 use Rattle.std.specs.Prelude.{is_some}
 use Rattle.dr_disk.specs.declared.call.Call.{Call}
 use Rattle.dr_disk.specs.State.{Always, DiskState, IsSettled, OnSeen}
@@ -8,7 +8,10 @@ use Rattle.dr_disk.specs.Called.{Went, itself}
 use Rattle.dr_disk.proofs.Calling.{failed_as, passed_as, then_any}
 use Rattle.dr_disk.proofs.Steps.{spans, widen}
 use Rattle.pages.specs.Runs.{IsUntouched, ReadsAlone}
+use Rattle.pages.specs.Counted.{MakesAtMost, one_of}
+use Rattle.pages.proofs.Counting.{few_as, few_failed, few_looked, few_then}
 use Rattle.pages.proofs.Looking.{untouched_twice}
+use Rattle.slot_store.specs.Limits.{settlings}
 use Rattle.slot_store.specs.declared.pager.Pager.{Pager}
 use Rattle.slot_store.specs.declared.opening.Found.{Found}
 use Rattle.slot_store.specs.declared.opening.Found.TheVariants.{Content, NoContent}
@@ -59,6 +62,10 @@ module _ {T U : Type 0} (pager : Pager) (x : U) (start b now : DiskState) (r : R
     (is_same pager was.bytes (shown was.bytes was.told) was.mark was.text was.rests).rests_too,
   ))
 
+  pub opened_few : MakesAtMost (settlings pager.area) one_of start now r
+  opened_few = few_then 0 (settlings pager.area) (settlings pager.area) x start b now r (omega arith)
+      (few_looked 0 start b (Ok x) looks) settles.few
+
 -- one that was read at rest lies where it lay
 pub opened_mark : (pager : Pager) (start : DiskState) → OnSeen (HasShot pager) start → (s : List ℕ) (m : Mark) (text : List ℕ)
     → start.seen ≡ Some s → IsAtRest pager.area m (Some text) s → mark pager ≡ m
@@ -96,6 +103,7 @@ module _ {T U : Type 0} (fault_at : List ℕ → Option ℕ) (area : Area) (page
     any_moment = opened_moment pager x start b now (Ok y) settled looks shown settles;
     still = opened_still pager x start b now (Ok y) settled looks shown settles;
     calls = passed_as itself itself (Stored pager what) y start now (opened_calls pager x start b now (Ok y) settled looks shown settles);
+    few = few_as _ (Stored pager what) y start now (opened_few pager x start b now (Ok y) settled looks shown settles);
   })
 
   pub opens_failed : (call : Call) → Settles {T = T} pager b now (Err call) → OpensStore fault_at area start now (Err call)
@@ -105,6 +113,8 @@ module _ {T U : Type 0} (fault_at : List ℕ → Option ℕ) (area : Area) (page
     still = opened_still {T = T} pager x start b now (Err call) settled looks shown settles;
     calls = failed_as {T = Outcome} {U = T} itself itself call call start now refl
         (opened_calls {T = T} pager x start b now (Err call) settled looks shown settles);
+    few = few_failed {T = Outcome} {U = T} _ (settlings pager.area) call start now (omega arith)
+        (opened_few {T = T} pager x start b now (Err call) settled looks shown settles);
   })
 
 -- what was read is damaged, or a read failed
@@ -116,6 +126,7 @@ module _ {U : Type 0} (fault_at : List ℕ → Option ℕ) (area : Area) (start 
     any_moment = looked_like area start now (Ok x) settled looks;
     still = λ was. looks.untouched;
     calls = passed_as itself itself (Refused slot at) x start now looks.calls;
+    few = few_as _ (Refused slot at) x start now (few_looked (settlings area) start now (Ok x) looks);
   }
 
   pub opens_unread : (call : Call) → ReadsAlone {T = U} start now (Err call) → OpensStore fault_at area start now (Err call)
@@ -124,4 +135,6 @@ module _ {U : Type 0} (fault_at : List ℕ → Option ℕ) (area : Area) (start 
     any_moment = looked_like {T = U} area start now (Err call) settled looks;
     still = λ was. looks.untouched;
     calls = failed_as {T = Outcome} {U = U} itself itself call call start now refl looks.calls;
+    few = few_failed {T = Outcome} {U = U} 0 (settlings area) call start now (omega arith)
+        (few_looked {T = U} 0 start now (Err call) looks);
   }

@@ -1,7 +1,9 @@
+use Rattle.std.proofs.Common.{arith}
 use Rattle.dr_disk.specs.Called.{itself}
 use Rattle.dr_disk.specs.declared.call.Call.TheVariants.{Sync}
 use Rattle.dr_disk.proofs.Calling.{fails, goes_well, then_any}
 use Rattle.dr_disk.proofs.Steps.{spans, widen}
+use Rattle.pages.proofs.Counting.{few_looked, few_missed, few_passed, few_then}
 use Rattle.slot_store.proofs.Openings.TablesRead.{tables_later}
 use Rattle.slot_store.proofs.reading.settle_and_read.Goals as goal
 
@@ -38,3 +40,16 @@ pub returns-in-Ok-read_tables-clause-tables : goal.returns-in-Ok-read_tables-cla
 returns-in-Ok-read_tables-clause-tables g c =
     let looks = c.in-Ok-read_tables.ensures.looks in
     tables_later _ _ _ _ _ _ c.in-Ok-read_tables.ensures.found looks.during.size looks.untouched.unwritten.seen
+
+pub returns-in_default-clause-few : goal.returns-in_default-clause-few
+returns-in_default-clause-few g c = few_missed Sync _ _ c.in_default.ensures.told.failed
+
+pub returns-in-Err-clause-few : goal.returns-in-Err-clause-few
+returns-in-Err-clause-few g c =
+    few_then 1 0 1 (tt {0}) _ _ _ _ (omega arith) (few_passed (tt {0}) _ _ c.in-Ok.ensures.told.passed)
+    (few_looked 0 _ _ _ c.in-Err.ensures.looks)
+
+pub returns-in-Ok-read_tables-clause-few : goal.returns-in-Ok-read_tables-clause-few
+returns-in-Ok-read_tables-clause-few g c =
+    few_then 1 0 1 (tt {0}) _ _ _ _ (omega arith) (few_passed (tt {0}) _ _ c.in-Ok.ensures.told.passed)
+    (few_looked 0 _ _ _ c.in-Ok-read_tables.ensures.looks)

@@ -1,8 +1,12 @@
-use Rattle.std.proofs.Common.{false, true, ap, length, refl, ◌∙◌}
+use Rattle.std.proofs.Common.{false, true, ap, length, refl, ◌∙◌, arith}
 use Rattle.std.proofs.lemmas.List.{length-replicate}
 use Rattle.dr_disk.specs.Called.{itself}
 use Rattle.dr_disk.proofs.Calling.{failed_as, then_any}
+use Rattle.pages.specs.Counted.{tidyings}
+use Rattle.pages.proofs.Counting.{few_more, few_then}
 use Rattle.pages.proofs.Looking.{untouched_twice}
+use Rattle.slot_store.specs.Areas.{layout_of}
+use Rattle.slot_store.specs.Limits.{settlings}
 use Rattle.slot_store.proofs.Alike.{both_moments, left_like, like_shots}
 use Rattle.slot_store.proofs.Wipings.EmptySettled.{empty_blank, empty_body, empty_closed, empty_gate, later_closed, none_counts, none_mute, none_unnamed, second_read, twice_rests}
 use Rattle.slot_store.proofs.Wipings.Marks.{no_marks}
@@ -40,6 +44,7 @@ returns-in-Err g c =
           (empty_gate pager c.requires.turn start rests false c.args.first_gate c.args.first.now c.requires.read.first_is)
           (empty_body pager c.requires.turn start rests false c.args.first_gate c.args.first.now c.requires.read.first_is)
           (empty_blank pager c.requires.turn c.args.named.now start rests);
+      few = few_more {T = Unit {0}} (tidyings (layout_of pager.area)) (settlings pager.area) start a _ (omega arith) c.in-Err.ensures.few;
     }
 
 pub wipe_table-requires-2-clause-counts : goal.wipe_table-requires-2-clause-counts
@@ -100,6 +105,8 @@ returns g c =
           (empty_gate pager c.requires.turn start rests true c.args.second_gate c.args.second.now c.requires.read.second_is)
           (empty_body pager c.requires.turn start rests true c.args.second_gate c.args.second.now c.requires.read.second_is)
           (empty_blank pager c.requires.turn c.args.named.now a (rests.0, one.unwritten.seen ∙ rests.1, rests.2)));
+      few = few_then (tidyings (layout_of pager.area)) (tidyings (layout_of pager.area)) (settlings pager.area) _ start a b _ (omega arith)
+          c.in-Ok.ensures.few c.wipe_table-2.ensures.few;
     }
 
 pub wipe_table-requires-clause-marks : goal.wipe_table-requires-clause-marks

@@ -1,7 +1,11 @@
-use Rattle.std.proofs.Common.{◌≡◌, false, ℕ, List, length, get_or, ◌∙◌, ap, subst}
+use Rattle.std.proofs.Common.{◌≡◌, false, ℕ, List, length, get_or, ◌∙◌, ap, subst, arith}
 use Rattle.std.specs.Prelude.{◌||◌}
 use Rattle.std.proofs.lemmas.List.{length-replicate}
+use Rattle.pages.specs.Counted.{tidyings}
+use Rattle.pages.proofs.Counting.{few_more}
 use Rattle.record_pages.specs.Plans.{is_among}
+use Rattle.slot_store.specs.Areas.{layout_of}
+use Rattle.slot_store.specs.Limits.{settlings}
 use Rattle.slot_store.proofs.Entries.{entries_inside}
 use Rattle.slot_store.proofs.Alike.{like_shots}
 use Rattle.slot_store.proofs.Wipings.Marks.{marks_of}
@@ -56,4 +60,5 @@ returns g c =
           (newer_gate pager c.requires.turn start settled c.requires.settling.shown c.args.gate c.args.other.now c.requires.read rests)
           (newer_body pager c.requires.turn start settled c.requires.settling.shown c.args.gate c.args.other.now c.requires.read rests)
           (newer_blank pager c.requires.turn start settled c.requires.settling.shown c.mark_pages.new.named marks rests);
+      few = few_more (tidyings (layout_of pager.area)) (settlings pager.area) start now _ (omega arith) c.wipe_table.ensures.few;
     }

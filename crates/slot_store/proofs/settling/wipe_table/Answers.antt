@@ -1,9 +1,12 @@
-use Rattle.std.proofs.Common.{◌-◌, take, refl, sym, subst, arith}
+use Rattle.std.proofs.Common.{◌-◌, take, refl, sym, ap, subst, arith}
 use Rattle.dr_base.specs.declared.limits.TheConstants.{PAGE}
 use Rattle.pages.specs.Clearing.{AreReadBlank}
+use Rattle.pages.specs.Counted.{tidyings}
 use Rattle.pages.specs.Tables.{AreZeros}
 use Rattle.pages.specs.Tidying.{IsToTidy}
+use Rattle.pages.proofs.Counting.{few_more}
 use Rattle.record_pages.specs.Tables.{record_names}
+use Rattle.slot_store.specs.Areas.{layout_of}
 use Rattle.slot_store.proofs.Wipings.Wiping.{blank_true, to_tidy, zeros_for}
 use Rattle.slot_store.proofs.settling.wipe_table.Goals as goal
 
@@ -30,3 +33,13 @@ pub returns-in-Err-clause-still : goal.returns-in-Err-clause-still
 returns-in-Err-clause-still g c = λ gate zero blank. c.tidy.ensures.still gate
     (blank_true c.is_blank-blank.result c.args.body.now c.is_blank-blank.ensures.others zero c.requires.long)
     (subst (λ l. AreReadBlank l c.args.named.now (g.D.Disk.state c.args.disk.now)) (sym c.layout.ensures.layout) blank)
+
+pub returns-in-Ok-clause-few : goal.returns-in-Ok-clause-few
+returns-in-Ok-clause-few g c = few_more {T = Unit {0}} (tidyings c.layout.result) (tidyings (layout_of c.args.area))
+    (g.D.Disk.state c.args.disk.now) (g.D.Disk.state c.tidy.new.disk) _
+    (omega (arith, ap tidyings c.layout.ensures.layout)) c.in-Ok.ensures.few
+
+pub returns-in-Err-clause-few : goal.returns-in-Err-clause-few
+returns-in-Err-clause-few g c = few_more {T = Unit {0}} (tidyings c.layout.result) (tidyings (layout_of c.args.area))
+    (g.D.Disk.state c.args.disk.now) (g.D.Disk.state c.tidy.new.disk) _
+    (omega (arith, ap tidyings c.layout.ensures.layout)) c.in-Err.ensures.few

@@ -1,14 +1,16 @@
-use Rattle.std.proofs.Common.{◌≡◌, ◌≢◌, OnOk, sym, subst}
+use Rattle.std.proofs.Common.{◌≡◌, ◌≢◌, ℕ, OnOk, sym, subst}
 use Rattle.std.specs.Prelude.{IfErr, IfOk}
 use Rattle.dr_disk.specs.declared.call.Call.{Call}
 use Rattle.dr_disk.specs.State.{all_pass}
 use Rattle.dr_disk.specs.Spans.{FailsLater, IsQuiet}
+use Rattle.pages.specs.Counted.{MakesAtMost}
+use Rattle.slot_store.specs.Limits.{faulted, openings}
 use Rattle.slot_store.specs.declared.errors.OpenError.TheVariants.{Memory, StoreFault}
 use Rattle.slot_store.specs.AtRest.{IsLeft}
 use Rattle.slot_store.specs.Found.{HasReadContent}
 use Rattle.slot_store.specs.Opened.{IsOpened, IsRefused}
 use Rattle.slot_store.specs.Store.{content}
-use Rattle.slot_store.proofs.Openings.Answered.{answered_ahead, answered_fate, answered_memory, answered_moment, answered_opened, answered_quiet, answered_read, answered_reads, answered_refused, answered_still, refused_by}
+use Rattle.slot_store.proofs.Openings.Answered.{answered_ahead, answered_fate, answered_few, answered_memory, answered_moment, answered_opened, answered_quiet, answered_read, answered_reads, answered_refused, answered_still, faulted_few, memory_few, refused_by}
 use Rattle.slot_store.proofs.store.SlotStore.open.Goals as goal
 
 pub returns-in-Err-clause-refused : goal.returns-in-Err-clause-refused
@@ -93,3 +95,18 @@ returns-clause-read g c =
     subst (λ r. IfOk r (λ both. HasReadContent g.G.Grammar.has_read c.args.reader.now c.open_read.new.reader (content both.0)))
     (sym c.answer.ensures)
     (answered_read g.G.Grammar.has_read c.args.reader.now c.open_read.new.reader c.open_read.result c.open_read.ensures.read)
+
+pub returns-clause-few : goal.returns-clause-few
+returns-clause-few g c =
+    subst (λ r. MakesAtMost (openings c.args.area) faulted (g.D.Disk.state c.args.disk.now) (g.D.Disk.state c.open_read.new.disk) r)
+    (sym c.answer.ensures)
+    (answered_few g.G.Grammar.fault_at c.args.area (g.D.Disk.state c.args.disk.now) (g.D.Disk.state c.settle_and_read.new.disk)
+    (g.D.Disk.state c.open_read.new.disk) c.in-Ok-settle_and_read.gates c.open_read.result c.settle_and_read.ensures.any_moment
+    c.settle_and_read.ensures.unwritten c.in-Ok-settle_and_read.ensures.settled c.in-Ok-settle_and_read.ensures.passed
+    c.in-Ok-settle_and_read.ensures.calls c.open_read.ensures.opens c.in-Ok-settle_and_read.ensures.few)
+
+pub returns-in-Err-clause-few : goal.returns-in-Err-clause-few
+returns-in-Err-clause-few g c = faulted_few {U = ℕ × ℕ} c.args.area _ _ _ c.in-Err.ensures.few
+
+pub returns-in_default-clause-few : goal.returns-in_default-clause-few
+returns-in_default-clause-few g c = memory_few c.args.area _
