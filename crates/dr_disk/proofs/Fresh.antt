@@ -36,10 +36,11 @@ fresh was bytes durable asked marks n passed counts read kept last unmarked = re
     leaves (Fill byte) = ap (λ (l : List ℕ). Some l) (filled_unmarked byte durable marks (λ i. ap (λ (m : List Bool). get_or m i false) unmarked ∙ no_mark n i) ∙ kept)
 
 pub blank : (size : ℕ) (bytes durable asked : List ℕ) (marks : List Bool) → bytes ≡ replicate size 0 → durable ≡ replicate size 0 → asked ≡ replicate size 0 → marks ≡ replicate size false
-    → IsBlank size (memory_state bytes durable asked marks all_pass 0 (record { reads = 0; writes = 0; syncs = 0 }))
+    → IsBlank size (memory_state bytes durable asked marks all_pass 0 (record { reads = 0; writes = 0; syncs = 0; tried = 0 }))
 blank size bytes durable asked marks read kept last unmarked = record {
-  fresh = fresh (replicate size 0) bytes durable asked marks size 0 (record { reads = 0; writes = 0; syncs = 0 }) read kept last unmarked;
+  fresh = fresh (replicate size 0) bytes durable asked marks size 0 (record { reads = 0; writes = 0; syncs = 0; tried = 0 }) read kept last unmarked;
   passed = refl;
+  reads = refl;
   faults = elim [ Read ↦ refl | Write ↦ refl | Sync ↦ refl ];
 }
 
@@ -51,5 +52,6 @@ left_by_crash bytes durable asked marks fate bytes' durable' asked' marks' n pas
   left = refl;
   fresh = fresh (left_by durable asked marks mode) bytes' durable' asked' marks' n passed counts read kept last unmarked;
   passed = refl;
+  reads = refl;
   faults = λ call. refl;
 }

@@ -78,7 +78,15 @@ pub record Goes {T E : Type 0} (a b : DiskState) (result : Result T E) : Type 0 
   pub counted : TellsPassed a b
   pub told : (passes : Bool) → passes_next a.fate ≡ Some passes → is_ok result ≡ passes
 
--- a read, which is not counted
+-- one read more was made, passed or failed
+abbrev pub HasRead : DiskState → DiskState → Type 0
+HasRead a b = (m : ℕ) → b.reads ≡ Some m → (l : ℕ) × (a.reads ≡ Some l) × (m ≡ l + 1)
+
+-- no read was made
+abbrev pub HasNotRead : DiskState → DiskState → Type 0
+HasNotRead a b = b.reads ≡ a.reads
+
+-- a read, which isn't counted among the calls that pass
 pub record ReadGoes {T E : Type 0} (a b : DiskState) (result : Result T E) : Type 0 where
   pub passed : b.passed ≡ a.passed
   pub keeps : b.keeps ≡ a.keeps

@@ -29,14 +29,15 @@ left_by durable asked marks Old = durable
 left_by durable asked marks New = asked
 left_by durable asked marks (Fill byte) = filled byte durable marks
 
--- how many reads, writes and syncs have failed
+-- how many reads, writes and syncs have failed, and how many reads were made
 pub record Counts : Type 0 where
   pub reads : ℕ
   pub writes : ℕ
   pub syncs : ℕ
+  pub tried : ℕ
 
 abbrev pub no_faults : Counts
-no_faults = record { reads = 0; writes = 0; syncs = 0 }
+no_faults = record { reads = 0; writes = 0; syncs = 0; tried = 0 }
 
 abbrev pub count_of : Counts → Call → ℕ
 count_of counts Read = counts.reads
@@ -59,6 +60,7 @@ memory_state bytes durable asked marks fate passed counts = record {
   faults = count_of counts;
   leaves = λ mode. Some (left_by durable asked marks mode);
   passed = told_count passed;
+  reads = told_count counts.tried;
   keeps = true;
   fate = fate;
 }

@@ -9,7 +9,7 @@ use Rattle.dr_disk.specs.Memory.{memory_state}
 abbrev pub state_of : MemoryDisk → DiskState
 state_of disk = memory_state disk.platter.bytes.items disk.platter.durable.items
     disk.platter.asked.items disk.platter.marks.items disk.meter.fate disk.meter.passed
-    (record { reads = disk.reads; writes = disk.writes; syncs = disk.syncs })
+    (record { reads = disk.reads; writes = disk.writes; syncs = disk.syncs; tried = disk.tried })
 
 -- this many more writes and syncs pass, which are counted anew, and then every call fails
 abbrev pub stopped_after : ℕ → MemoryDisk → MemoryDisk
@@ -36,6 +36,7 @@ pub record IsFresh (bytes : List ℕ) (disk : DiskState) : Type 0 where
 pub record IsBlank (size : ℕ) (disk : DiskState) : Type 0 where
   pub fresh : IsFresh (replicate size 0) disk
   pub passed : disk.passed ≡ Some 0
+  pub reads : disk.reads ≡ Some 0
   pub faults : (call : Call) → disk.faults call ≡ 0
 
 -- what a crash left, which counts on as before
@@ -44,4 +45,5 @@ pub record IsLeftBy (mode : Mode) (was now : DiskState) : Type 0 where
   pub left : was.leaves mode ≡ Some bytes
   pub fresh : IsFresh bytes now
   pub passed : now.passed ≡ was.passed
+  pub reads : now.reads ≡ was.reads
   pub faults : (call : Call) → now.faults call ≡ was.faults call

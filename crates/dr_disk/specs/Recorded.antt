@@ -56,6 +56,7 @@ recording_state size events bytes durable asked marks full passed counts = recor
   faults = count_of counts;
   leaves = λ mode. if full then None else Some (left_by durable asked marks mode);
   passed = told_count passed;
+  reads = told_count counts.tried;
   keeps = true;
   fate = untold_fate;
 }

@@ -9,11 +9,11 @@ use Rattle.dr_disk.specs.RecordedLaws.{recording_lawful}
 
 abbrev pub recording_state_of : RecordingDisk → DiskState
 recording_state_of disk = recording_state disk.size (events_of disk.tape.calls.items disk.tape.bytes.items) disk.platter.bytes.items disk.platter.durable.items
-    disk.platter.asked.items disk.platter.marks.items disk.full disk.passed (record { reads = 0; writes = disk.writes; syncs = disk.syncs })
+    disk.platter.asked.items disk.platter.marks.items disk.full disk.passed (record { reads = 0; writes = disk.writes; syncs = disk.syncs; tried = disk.tried })
 
 pub recording_lawful_of : (disk : RecordingDisk) → IsLawful (recording_state_of disk)
 recording_lawful_of disk = recording_lawful disk.size (events_of disk.tape.calls.items disk.tape.bytes.items) disk.platter.bytes.items disk.platter.durable.items
-    disk.platter.asked.items disk.platter.marks.items disk.full disk.passed (record { reads = 0; writes = disk.writes; syncs = disk.syncs })
+    disk.platter.asked.items disk.platter.marks.items disk.full disk.passed (record { reads = 0; writes = disk.writes; syncs = disk.syncs; tried = disk.tried })
     disk.platter.agrees disk.platter.asks disk.platter.one_mark_each disk.durable disk.marks
 
 -- whether its tape has room for a call with this many bytes
@@ -26,6 +26,7 @@ pub record IsNewRecording (size calls bytes : ℕ) (disk : RecordingDisk) : Type
   pub settled : IsSettled (recording_state_of disk)
   pub leaves : (mode : Mode) → (recording_state_of disk).leaves mode ≡ Some (replicate size 0)
   pub passed : (recording_state_of disk).passed ≡ Some 0
+  pub reads : (recording_state_of disk).reads ≡ Some 0
   pub faults : (call : Call) → (recording_state_of disk).faults call ≡ 0
   pub calls_room : disk.tape.calls_room ≡ calls
   pub bytes_room : disk.tape.bytes_room ≡ bytes

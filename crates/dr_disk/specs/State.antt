@@ -41,6 +41,8 @@ pub record DiskState : Type 1 where
   pub leaves : Mode → Option (List ℕ)
   -- how many writes and syncs have passed, where it is told
   pub passed : Option ℕ
+  -- how many reads were made, where it is told, those that failed among them
+  pub reads : Option ℕ
   -- a write that fails leaves what reads give
   pub keeps : Bool
   pub fate : Fate

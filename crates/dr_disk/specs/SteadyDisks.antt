@@ -5,4 +5,4 @@ use Rattle.dr_disk.specs.Memory.{memory_state, no_faults}
 
 abbrev pub steady_state_of : SteadyDisk → DiskState
 steady_state_of disk = memory_state disk.platter.bytes.items disk.platter.durable.items disk.platter.asked.items
-    disk.platter.marks.items all_pass disk.passed no_faults
+    disk.platter.marks.items all_pass disk.passed (record no_faults { tried = disk.tried })

@@ -5,7 +5,7 @@ ghost use Rattle.dr_disk.specs.declared.call.Call.TheVariants.{Read, Write, Sync
 ghost use Rattle.dr_disk.specs.Bytes.{EndsBy, overwritten_told};
 ghost use Rattle.dr_disk.specs.State.{DiskState, IsLawful, IsSettled, OnSeen};
 ghost use Rattle.dr_disk.specs.Spans.{GoesBy};
-ghost use Rattle.dr_disk.specs.Calls.{Unwritten, WrittenIn, LeavesWritten, LeavesSame, Goes, ReadGoes, HasFault};
+ghost use Rattle.dr_disk.specs.Calls.{Unwritten, WrittenIn, LeavesWritten, LeavesSame, Goes, ReadGoes, HasFault, HasNotRead, HasRead};
 
 use dr_base::Failed;
 
@@ -27,6 +27,7 @@ pub trait Disk {
         ensures passes { GoesBy (state self.old) (state self.new) }
         ensures unwritten { Unwritten (state self.old) (state self.new) }
         ensures told { ReadGoes (state self.old) (state self.new) result }
+        ensures one_read { HasRead (state self.old) (state self.new) }
         ensures cause { HasFault Read (state self.old) (state self.new) result };
 
     /// A place from which on a read gives zeros: how far the disk has to be looked at. The call
@@ -36,6 +37,7 @@ pub trait Disk {
         ensures passes { GoesBy (state self.old) (state self.new) }
         ensures unwritten { Unwritten (state self.old) (state self.new) }
         ensures told { ReadGoes (state self.old) (state self.new) result }
+        ensures one_read { HasRead (state self.old) (state self.new) }
         ensures cause { HasFault Read (state self.old) (state self.new) result };
 
     /// Writes over the bytes from a place on.
@@ -49,6 +51,7 @@ pub trait Disk {
         ensures keeps { OnErr result ((state self.old).keeps ≡ true
             → (state self.new).seen ≡ (state self.old).seen) }
         ensures told { Goes (state self.old) (state self.new) result }
+        ensures unread { HasNotRead (state self.old) (state self.new) }
         ensures cause { HasFault Write (state self.old) (state self.new) result };
 
     /// After it a crash leaves what a read gives.
@@ -58,6 +61,7 @@ pub trait Disk {
         ensures unwritten { Unwritten (state self.old) (state self.new) }
         ensures leaves { OnErr result (LeavesSame (state self.old) (state self.new)) }
         ensures told { Goes (state self.old) (state self.new) result }
+        ensures unread { HasNotRead (state self.old) (state self.new) }
         ensures cause { HasFault Sync (state self.old) (state self.new) result };
 
     ghost lawful: { (disk : Self) → IsLawful (state disk) };

@@ -11,9 +11,9 @@ use crate::platter::Platter;
 use dr_base::Failed;
 use std::alloc::{AllocError, Global};
 
-/// A disk in memory. It tells what reads give, what a crash of each kind would leave, and how
-/// many writes and syncs have passed since it was made or was last told to stop or to fail. Until
-/// then no call fails.
+/// A disk in memory. It tells what reads give, what a crash of each kind would leave, how many
+/// reads were made, and how many writes and syncs have passed since it was made or was last told
+/// to stop or to fail. Until then no call fails.
 #[derive(Drop)]
 pub struct MemoryDisk {
     pub(crate) platter: Platter,
@@ -21,6 +21,7 @@ pub struct MemoryDisk {
     reads: u64,
     writes: u64,
     syncs: u64,
+    tried: u64,
 }
 
 /// Counts a call that failed, up to the end of the count's type.
@@ -31,7 +32,7 @@ pub fn count_fault(count: &mut u64)
     *count = count.saturating_add(1);
 }
 
-/// Counts a write or a sync that passed.
+/// Counts a write or a sync that passed, or a read that was made.
 pub(crate) fn count_passed(passed: &mut u64)
     ensures one { (m : ℕ) → told_count passed.new ≡ Some m → (l : ℕ)
         × (told_count passed.old ≡ Some l) × (m ≡ l + 1) }
@@ -55,6 +56,7 @@ impl MemoryDisk {
             reads: 0,
             writes: 0,
             syncs: 0,
+            tried: 0,
         })
     }
 
@@ -97,6 +99,7 @@ impl MemoryDisk {
             reads,
             writes,
             syncs,
+            tried,
         } = self;
         MemoryDisk {
             platter: platter.crash(mode),
@@ -104,6 +107,7 @@ impl MemoryDisk {
             reads,
             writes,
             syncs,
+            tried,
         }
     }
 }
@@ -117,7 +121,7 @@ impl Disk for MemoryDisk {
 
     ghost lawful = { λ m. memory_lawful m.platter.bytes.items m.platter.durable.items m.platter.asked.items
         m.platter.marks.items m.meter.fate m.meter.passed
-        (record { reads = m.reads; writes = m.writes; syncs = m.syncs })
+        (record { reads = m.reads; writes = m.writes; syncs = m.syncs; tried = m.tried })
         m.platter.agrees m.platter.asks m.platter.one_mark_each };
 
     fn size(&self) -> u64 {
@@ -125,6 +129,7 @@ impl Disk for MemoryDisk {
     }
 
     fn read(&mut self, at: u64, into: &mut [u8]) -> Result<(), Failed> {
+        count_passed(&mut self.tried);
         if !self.meter.passes_reads() {
             count_fault(&mut self.reads);
             return Err(Failed);
@@ -134,6 +139,7 @@ impl Disk for MemoryDisk {
     }
 
     fn end(&mut self) -> Result<u64, Failed> {
+        count_passed(&mut self.tried);
         if !self.meter.passes_reads() {
             count_fault(&mut self.reads);
             return Err(Failed);

@@ -24,6 +24,7 @@ pub struct RecordingDisk {
     passed: u64,
     writes: u64,
     syncs: u64,
+    tried: u64,
     ghost sized: { length platter.bytes.items ≡ size },
     ghost total: { total_of tape.calls.items ≡ length tape.bytes.items },
     ghost bytes: { platter.bytes.items ≡ (replayed (blank size) (events_of tape.calls.items tape.bytes.items)).bytes },
@@ -52,6 +53,7 @@ impl RecordingDisk {
             passed: 0,
             writes: 0,
             syncs: 0,
+            tried: 0,
         })
     }
 }
@@ -62,7 +64,7 @@ impl Disk for RecordingDisk {
     ghost use Rattle.dr_disk.specs.Bytes.{overwritten_told};
     ghost use Rattle.dr_disk.specs.State.{IsSettled};
     ghost use Rattle.dr_disk.specs.Spans.{GoesBy};
-    ghost use Rattle.dr_disk.specs.Calls.{Unwritten, WrittenIn, LeavesWritten, LeavesSame, Goes, HasFault};
+    ghost use Rattle.dr_disk.specs.Calls.{Unwritten, WrittenIn, LeavesWritten, LeavesSame, Goes, HasFault, HasNotRead};
     ghost use Rattle.dr_disk.specs.RecordingDisks.{HasRoom, recording_lawful_of, recording_state_of};
 
     ghost state = { recording_state_of };
@@ -74,11 +76,13 @@ impl Disk for RecordingDisk {
     }
 
     fn read(&mut self, at: u64, into: &mut [u8]) -> Result<(), Failed> {
+        count_passed(&mut self.tried);
         self.platter.read(at as usize, into);
         Ok(())
     }
 
     fn end(&mut self) -> Result<u64, Failed> {
+        count_passed(&mut self.tried);
         Ok(self.platter.bytes.len() as u64)
     }
 
@@ -94,6 +98,7 @@ impl Disk for RecordingDisk {
         ensures keeps { OnErr result ((recording_state_of self.old).keeps ≡ true →
             (recording_state_of self.new).seen ≡ (recording_state_of self.old).seen) }
         ensures told { Goes (recording_state_of self.old) (recording_state_of self.new) result }
+        ensures unread { HasNotRead (recording_state_of self.old) (recording_state_of self.new) }
         ensures cause { HasFault Write (recording_state_of self.old)
             (recording_state_of self.new) result }
         ensures exact { IsOk result ↔ HasRoom (length bytes.now) self.old }
@@ -116,6 +121,7 @@ impl Disk for RecordingDisk {
         ensures leaves { OnErr result
             (LeavesSame (recording_state_of self.old) (recording_state_of self.new)) }
         ensures told { Goes (recording_state_of self.old) (recording_state_of self.new) result }
+        ensures unread { HasNotRead (recording_state_of self.old) (recording_state_of self.new) }
         ensures cause { HasFault Sync (recording_state_of self.old)
             (recording_state_of self.new) result }
         ensures exact { IsOk result ↔ HasRoom 0 self.old }

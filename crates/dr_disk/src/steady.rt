@@ -13,6 +13,7 @@ use std::alloc::{AllocError, Global};
 pub struct SteadyDisk {
     pub(crate) platter: Platter,
     passed: u64,
+    tried: u64,
 }
 
 impl SteadyDisk {
@@ -26,6 +27,7 @@ impl SteadyDisk {
         Ok(SteadyDisk {
             platter: Platter::new(alloc, size as usize)?,
             passed: 0,
+            tried: 0,
         })
     }
 }
@@ -39,7 +41,7 @@ impl Disk for SteadyDisk {
     ghost state = { steady_state_of };
 
     ghost lawful = { λ d. memory_lawful d.platter.bytes.items d.platter.durable.items d.platter.asked.items
-        d.platter.marks.items all_pass d.passed no_faults
+        d.platter.marks.items all_pass d.passed (record no_faults { tried = d.tried })
         d.platter.agrees d.platter.asks d.platter.one_mark_each };
 
     fn size(&self) -> u64 {
@@ -47,11 +49,13 @@ impl Disk for SteadyDisk {
     }
 
     fn read(&mut self, at: u64, into: &mut [u8]) -> Result<(), Failed> {
+        count_passed(&mut self.tried);
         self.platter.read(at as usize, into);
         Ok(())
     }
 
     fn end(&mut self) -> Result<u64, Failed> {
+        count_passed(&mut self.tried);
         Ok(self.platter.bytes.len() as u64)
     }
 

@@ -7,7 +7,7 @@ use Rattle.dr_disk.proofs.Passing.{counts_grow}
 
 abbrev pub counted : ℕ → ℕ → ℕ → ℕ → Counted
 counted size reads writes syncs =
-    record { size = size; counts = record { reads = reads; writes = writes; syncs = syncs } }
+    record { size = size; counts = record { reads = reads; writes = writes; syncs = syncs; tried = 0 } }
 
 goes_on : (size reads writes syncs r w s : ℕ) → reads ≤ r → writes ≤ w → syncs ≤ s
     → GoesBy (untold (counted size reads writes syncs)) (untold (counted size r w s))

@@ -17,6 +17,7 @@ untold disk = record {
   faults = count_of disk.counts;
   leaves = λ mode. None;
   passed = None;
+  reads = None;
   keeps = false;
   fate = untold_fate;
 }

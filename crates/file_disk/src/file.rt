@@ -39,7 +39,7 @@ impl<'a, R: Files<File = File>> Model for FileDisk<'a, R> {
 
     ghost Value = { Counted };
 
-    ghost view = { λ d. record { size = d.size; counts = record { reads = d.reads; writes = d.writes; syncs = d.syncs } } };
+    ghost view = { λ d. record { size = d.size; counts = record { reads = d.reads; writes = d.writes; syncs = d.syncs; tried = 0 } } };
 }
 
 /// Where the file's room ends once it reaches `end`: at the end of a step, or of the disk.

@@ -44,7 +44,7 @@ fn read_pages<D: Disk>(
     ensures pages { OnOk result (OnSeen (λ s. cut (length numbers.now) bytes.new
         ≡ map (page_of layout s) numbers.now) (D.state disk.old)) }
     ensures long { length bytes.new ≡ length bytes.old }
-    ensures looks { ReadsAlone (D.state disk.old) (D.state disk.new) result }
+    ensures looks { ReadsAlone (length numbers.now) (D.state disk.old) (D.state disk.new) result }
 {
     'pages: for i in 0..numbers.len() {
         let at = PAGE * i;
@@ -70,7 +70,7 @@ fn fill<D: Disk>(
         ≡ map (page_of layout s) numbers.now) (D.state disk.old)) }
     ensures long { length bytes.new.items ≡ PAGE * length numbers.now }
     ensures room { vec_capacity bytes.old ≤ vec_capacity bytes.new }
-    ensures looks { ReadsAlone (D.state disk.old) (D.state disk.new) result }
+    ensures looks { ReadsAlone (length numbers.now) (D.state disk.old) (D.state disk.new) result }
 {
     bytes.resize(PAGE * numbers.len(), 0).unwrap();
     read_pages(disk, layout, numbers, bytes)
@@ -113,7 +113,7 @@ pub fn load<G: Grammar, D: Disk>(
     requires new { G.is_new reader.old }
     ensures named { IfOk result (IsNamedRecord G.fault_at bounds body.now) }
     ensures read { IfOk result (IsReadRecord (G.has_read reader.new)) }
-    ensures loaded { Finds
+    ensures loaded { Finds bounds.most
         (λ disk loaded. OnSeen (IsLoaded G.fault_at layout bounds body.now loaded) disk)
         (D.state disk.old) (D.state disk.new) result }
 {

@@ -29,7 +29,7 @@ few_unread n Write a b same read = absurd (let e : Write ≡ Read = read in cc)
 few_unread n Sync a b same read = absurd (let e : Sync ≡ Read = read in cc)
 
 -- reads alone
-pub few_looked : {T : Type 0} (n : ℕ) (a b : DiskState) (r : Result T Call) → ReadsAlone a b r
+pub few_looked : {T : Type 0} {k : ℕ} (n : ℕ) (a b : DiskState) (r : Result T Call) → ReadsAlone k a b r
     → MakesAtMost n one_of a b r
 few_looked n a b (Ok x) looks = few_none n x a b looks.untouched.passed
 few_looked n a b (Err call) looks = few_unread n call a b looks.untouched.passed looks.read

@@ -6,6 +6,14 @@ use Rattle.dr_disk.specs.State.{DiskState}
 use Rattle.pages.specs.declared.layout.Layout.{Layout}
 use Rattle.pages.specs.declared.layout.TheConstants.{OPEN}
 
+-- No more reads than this many were made, where it is told.
+pub record ReadsAtMost (n : ℕ) (start now : DiskState) : Type 0 where
+  pub told : (m : ℕ) → now.reads ≡ Some m → (l : ℕ) × (start.reads ≡ Some l) × (m ≤ l + n)
+
+-- how far the disk has to be looked at is asked once, and each page is read once
+abbrev pub lookings : Layout → ℕ
+lookings l = 1 + (l.count - l.least)
+
 -- how many of a call that failed are a write or a sync
 abbrev pub one_of : Call → ℕ
 one_of Read = 0

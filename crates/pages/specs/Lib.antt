@@ -5,8 +5,8 @@ pub mod Judged
 pub mod Around
 pub mod Snapshots
 pub mod Writing
-pub mod Runs
 pub mod Counted
+pub mod Runs
 pub mod Finds
 pub mod Stops
 pub mod Commits

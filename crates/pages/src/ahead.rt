@@ -20,7 +20,7 @@ pub(crate) fn none_ahead<D: Disk>(disk: &mut D, layout: Layout) -> Result<Ahead,
     requires { IsSound layout (D.state disk.old).size }
     ensures ahead { (bytes : List ℕ) → IfOk result (λ ahead.
         OnSeen (IsAhead layout layout.least ahead bytes) (D.state disk.old)) }
-    ensures looks { ReadsAlone (D.state disk.old) (D.state disk.new) result }
+    ensures looks { ReadsAlone 1 (D.state disk.old) (D.state disk.new) result }
 {
     let Ok(end) = disk.end() else {
         return Err(Call::Read);
@@ -57,7 +57,7 @@ fn reach<D: Disk>(
     ensures ahead { OnOk result (OnSeen (IsAhead layout number ahead.new bytes.new)
         (D.state disk.old)) }
     ensures long { length bytes.new ≡ PAGE * ROW_PAGES }
-    ensures looks { ReadsAlone (D.state disk.old) (D.state disk.new) result }
+    ensures looks { ReadsAlone 1 (D.state disk.old) (D.state disk.new) result }
 {
     if is_held(ahead, number) {
         return Ok(());
@@ -101,7 +101,7 @@ pub(crate) fn is_zeros<D: Disk>(
     ensures ahead { OnOk result (OnSeen (IsAhead layout number ahead.new bytes.new)
         (D.state disk.old)) }
     ensures long { length bytes.new ≡ PAGE * ROW_PAGES }
-    ensures looks { ReadsAlone (D.state disk.old) (D.state disk.new) result }
+    ensures looks { ReadsAlone 1 (D.state disk.old) (D.state disk.new) result }
 {
     if page_at(layout, number) >= ahead.end {
         return Ok(true);

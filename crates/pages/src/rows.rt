@@ -60,7 +60,7 @@ pub(crate) fn read_row<D: Disk>(
     ensures pages { OnOk result (OnSeen (λ s. (j : ℕ) → j < count
         → row_page into.new j ≡ page_of layout s (number + j)) (D.state disk.old)) }
     ensures long { length into.new ≡ length into.old }
-    ensures looks { ReadsAlone (D.state disk.old) (D.state disk.new) result }
+    ensures looks { ReadsAlone 1 (D.state disk.old) (D.state disk.new) result }
 {
     let at = page_at(layout, number);
     let Ok(()) = disk.read(at, &mut into[..PAGE * count as usize]) else {

@@ -1,11 +1,11 @@
 -- What opening an area comes to, once its tables were read.
-use Rattle.std.specs.Prelude.{◌≡◌, ⊤, ℕ, List, [], Option, Result, Ok, Err, IfOk}
+use Rattle.std.specs.Prelude.{◌≡◌, ◌+◌, ◌*◌, ⊤, ℕ, List, [], Option, Result, Ok, Err, IfOk}
 use Rattle.dr_disk.specs.declared.call.Call.{Call}
 use Rattle.dr_disk.specs.State.{DiskState, OnSeen}
 use Rattle.dr_disk.specs.Spans.{Span}
 use Rattle.dr_disk.specs.Called.{Went, itself}
 use Rattle.pages.specs.Runs.{IsUntouched}
-use Rattle.pages.specs.Counted.{MakesAtMost, one_of}
+use Rattle.pages.specs.Counted.{MakesAtMost, ReadsAtMost, lookings, one_of}
 use Rattle.paged_records.specs.declared.draft.Draft.{Draft}
 use Rattle.slot_store.specs.declared.errors.OpenError.{OpenError}
 use Rattle.slot_store.specs.declared.errors.OpenError.TheVariants.{Damaged, StoreFault}
@@ -13,7 +13,7 @@ use Rattle.paged_records.specs.declared.kept.Kept.{Kept}
 use Rattle.slot_store.specs.declared.opening.Found.{Found}
 use Rattle.slot_store.specs.declared.outcome.Outcome.{Outcome}
 use Rattle.slot_store.specs.declared.outcome.Outcome.TheVariants.{Refused, Stored}
-use Rattle.slot_store.specs.Areas.{Area}
+use Rattle.slot_store.specs.Areas.{Area, layout_of}
 use Rattle.slot_store.specs.Limits.{settlings}
 use Rattle.slot_store.specs.AtRest.{IsReadAtRest}
 use Rattle.slot_store.specs.Memory.{HasRoomToLoad}
@@ -51,6 +51,7 @@ pub record OpensStore (fault_at : List ℕ → Option ℕ) (area : Area) (start 
   pub still : IsReadAtRest area start → IsUntouched start now
   pub calls : Went itself start now result
   pub few : MakesAtMost (settlings area) one_of start now result
+  pub reads : ReadsAtMost (area.most + 2 * lookings (layout_of area)) start now
 
 -- as callers are told
 abbrev pub opening_answer : Result Outcome Call → Result (SlotStore × Found) OpenError

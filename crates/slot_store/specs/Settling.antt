@@ -1,11 +1,11 @@
 -- How an area is settled: what is asked of a disk, and what its calls leave.
-use Rattle.std.specs.Prelude.{◌≡◌, ℕ, List, Some, Result, OnOk}
+use Rattle.std.specs.Prelude.{◌≡◌, ◌*◌, ℕ, List, Some, Result, OnOk}
 use Rattle.dr_disk.specs.State.{Always, DiskState, IsSettled, OnSeen}
 use Rattle.dr_disk.specs.Spans.{Span}
 use Rattle.dr_disk.specs.declared.call.Call.{Call}
 use Rattle.dr_disk.specs.Called.{Went, itself}
 use Rattle.pages.specs.Runs.{IsUntouched}
-use Rattle.pages.specs.Counted.{MakesAtMost, one_of}
+use Rattle.pages.specs.Counted.{MakesAtMost, ReadsAtMost, lookings, one_of}
 use Rattle.pages.specs.Snapshots.{kept_shot}
 use Rattle.pages.specs.Judged.{AreTablesRead as ArePairRead}
 use Rattle.pages.specs.Tables.{Table}
@@ -55,3 +55,4 @@ pub record Settles {T : Type 0} (pager : Pager) (start now : DiskState)
   pub calls : Went itself start now result
   pub still : IsAtRestAsRead pager start → IsUntouched start now
   pub few : MakesAtMost (settlings pager.area) one_of start now result
+  pub reads : ReadsAtMost (2 * lookings (layout_of pager.area)) start now

@@ -1,13 +1,16 @@
 //! A look at an area, which writes nothing.
 
-ghost use Rattle.std.specs.Prelude.{◌≡◌, ◌≤◌, length, IfErr, IfOk, OnOk};
+ghost use Rattle.std.specs.Prelude.{◌≡◌, ◌+◌, ◌≤◌, length, IfErr, IfOk, OnOk};
 ghost use Rattle.dr_base.specs.Causes.{Rose};
 ghost use Rattle.dr_disk.specs.declared.call.Call.{Call};
 ghost use Rattle.dr_disk.specs.State.{OnSeen};
 ghost use Rattle.dr_disk.specs.Spans.{IsQuiet, Span};
 ghost use Rattle.dr_disk.specs.Calls.{Unwritten};
+ghost use Rattle.pages.specs.Counted.{ReadsAtMost, lookings};
 ghost use Rattle.pages.specs.Finds.{Finds};
 ghost use Rattle.pages.specs.Judged.{table_with};
+ghost use Rattle.slot_store.specs.Areas.{layout_of};
+ghost use Rattle.slot_store.specs.Limits.{inspections};
 ghost use Rattle.slot_store.specs.Outcome.{IsForStore};
 ghost use Rattle.slot_store.specs.Pager.{content};
 ghost use Rattle.slot_store.specs.Reading.{reading_of};
@@ -67,7 +70,7 @@ fn report_read<G: Grammar, D: Disk>(
     requires new { G.is_new reader.old }
     requires memory { IsForStore area kept draft }
     requires tables { HasTables area first_gate second_gate scratch.old (D.state disk.old) }
-    ensures { Finds (λ disk report. OnSeen (IsReport G.fault_at area report) disk)
+    ensures { Finds (area.most + lookings (layout_of area)) (λ disk report. OnSeen (IsReport G.fault_at area report) disk)
         (D.state disk.old) (D.state disk.new) result }
 {
     let first = gate_seen(first_gate, &scratch.first);
@@ -124,6 +127,7 @@ pub fn inspect<G: Grammar, D: Disk>(
     // Nothing is written or synced, and no crash meanwhile leaves anything else.
     ensures unwritten { Unwritten (D.state disk.old) (D.state disk.new) }
     ensures passed { (D.state disk.new).passed ≡ (D.state disk.old).passed }
+    ensures reads { ReadsAtMost (inspections area) (D.state disk.old) (D.state disk.new) }
     ensures any_moment { Span (D.state disk.old) (D.state disk.new) (D.state disk.old).image }
 
     // Each refusal has its cause.

@@ -9,7 +9,7 @@ pub use area::Area;
 pub use errors::{InspectError, OpenError, StoreFault};
 pub use inspecting::inspect;
 pub use laws::{locality, readings, resting, widening};
-pub use limits::{OPENING_CALLS, limits_in_numbers};
+pub use limits::{LOOK_READS, OPENING_CALLS, OPENING_READS, limits_in_numbers};
 pub use opening::Found;
 pub use paged_records::Grammar;
 pub use pages::LOWER_PAGES;

@@ -70,7 +70,7 @@ fn locate_newer<G: Grammar, D: Disk>(
     requires counts { OnSeen (λ s. tables_standing (layout_of area) s
         ≡ counts second (open_table body.now)) (D.state disk.old) }
     requires new { G.is_new reader.old }
-    ensures located { Finds (IsLocated G.fault_at area)
+    ensures located { Finds area.most (IsLocated G.fault_at area)
         (D.state disk.old) (D.state disk.new) result }
     ensures read { IfOk result (IsLocatedBy G.has_read reader.old reader.new) }
 {
@@ -103,7 +103,7 @@ pub(crate) fn locate<G: Grammar, D: Disk>(
     requires memory { IsForStore area kept draft }
     requires tables { HasTables area first_gate second_gate scratch.now (D.state disk.old) }
     requires new { G.is_new reader.old }
-    ensures located { Finds (IsLocated G.fault_at area)
+    ensures located { Finds area.most (IsLocated G.fault_at area)
         (D.state disk.old) (D.state disk.new) result }
     ensures read { IfOk result (IsLocatedBy G.has_read reader.old reader.new) }
 {

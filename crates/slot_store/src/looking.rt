@@ -7,6 +7,7 @@ ghost use Rattle.pages.specs.Clearing.{AreBlank};
 ghost use Rattle.pages.specs.Tables.{wiped};
 ghost use Rattle.record_pages.specs.Plans.{is_among};
 ghost use Rattle.slot_store.specs.Areas.{layout_of};
+ghost use Rattle.pages.specs.Counted.{lookings};
 ghost use Rattle.pages.specs.Finds.{Finds};
 ghost use Rattle.pages.specs.Judged.{table_with};
 ghost use Rattle.slot_store.specs.Pager.{IsLaidFor};
@@ -52,7 +53,7 @@ fn others_blank<D: Disk>(
     requires room { length room.old ≡ PAGE * ROW_PAGES }
     ensures marks { (n : ℕ) → get_or named.new n false
         ≡ is_among pager.now.kept.numbers.items n }
-    ensures blank { Finds (λ disk blank. OnSeen (λ s. IsTrue blank
+    ensures blank { Finds (lookings (layout_of pager.now.area)) (λ disk blank. OnSeen (λ s. IsTrue blank
         ↔ AreBlank (layout_of pager.now.area) named.new s) disk)
         (D.state disk.old) (D.state disk.new) result }
 {
@@ -76,7 +77,8 @@ pub(crate) fn rests<D: Disk>(
     requires tables { HasTables pager.now.area first_gate second_gate scratch.old
         (D.state disk.old) }
     requires shown { OnSeen (HasShot pager.now) (D.state disk.old) }
-    ensures { Finds (λ disk rests. OnSeen (λ s. IsTrue rests ↔ IsLaidFor pager.now s) disk)
+    ensures { Finds (lookings (layout_of pager.now.area))
+        (λ disk rests. OnSeen (λ s. IsTrue rests ↔ IsLaidFor pager.now s) disk)
         (D.state disk.old) (D.state disk.new) result }
 {
     let first = is_wiped(first_gate, &scratch.first);

@@ -5,8 +5,8 @@ ghost use Rattle.std.specs.Prelude.{◌≡◌, ◌≢◌, IfErr, IfOk, OnOk};
 ghost use Rattle.dr_disk.specs.declared.call.Call.{Call};
 ghost use Rattle.dr_disk.specs.State.{Fate, OnSeen};
 ghost use Rattle.dr_disk.specs.Spans.{FailsLater, IsQuiet, Span};
-ghost use Rattle.pages.specs.Counted.{MakesAtMost};
-ghost use Rattle.slot_store.specs.Limits.{faulted, openings};
+ghost use Rattle.pages.specs.Counted.{MakesAtMost, ReadsAtMost};
+ghost use Rattle.slot_store.specs.Limits.{faulted, opening_reads, openings};
 ghost use Rattle.slot_store.specs.Reading.{IsEntryOrLike, IsLikeRead};
 ghost use Rattle.slot_store.specs.AtRest.{IsLeft, IsReadAtRest};
 ghost use Rattle.slot_store.specs.Found.{HasReadContent};
@@ -84,7 +84,8 @@ impl SlotStore {
         ensures still { IsReadAtRest area (D.state disk.old) → IsLeft
             (D.state disk.old) (D.state disk.new) result }
 
-        // However it ends, writes and syncs are bounded, the one that failed among them.
+        // However it ends, reads are bounded, and so are writes and syncs, the one that failed among them.
+        ensures looked { ReadsAtMost (opening_reads area) (D.state disk.old) (D.state disk.new) }
         ensures few { MakesAtMost (openings area) faulted
             (D.state disk.old) (D.state disk.new) result }
 

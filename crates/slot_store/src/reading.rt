@@ -5,12 +5,12 @@ ghost use Rattle.dr_base.specs.declared.limits.TheConstants.{PAGE};
 ghost use Rattle.dr_disk.specs.declared.call.Call.TheVariants.{Sync};
 ghost use Rattle.dr_disk.specs.State.{IsSettled, OnSeen};
 ghost use Rattle.dr_disk.specs.Spans.{GoesBy, HavePassed, Span};
-ghost use Rattle.dr_disk.specs.Calls.{Goes, HasFault, Unwritten};
+ghost use Rattle.dr_disk.specs.Calls.{Goes, HasFault, HasNotRead, Unwritten};
 ghost use Rattle.dr_disk.specs.Called.{Went, itself};
 ghost use Rattle.pages.specs.Layouts.{table_place};
 ghost use Rattle.pages.specs.Tables.{table_at};
 ghost use Rattle.slot_store.specs.Areas.{layout_of};
-ghost use Rattle.pages.specs.Counted.{MakesAtMost, one_of};
+ghost use Rattle.pages.specs.Counted.{MakesAtMost, ReadsAtMost, one_of};
 ghost use Rattle.pages.specs.Finds.{Finds};
 ghost use Rattle.pages.specs.Judged.{table_with};
 ghost use Rattle.slot_store.specs.Scratch.{HasTables, IsScratch};
@@ -38,7 +38,7 @@ fn read_table<D: Disk>(
 ) -> Result<u8, Call>
     requires within { HasArea area (D.state disk.old) }
     requires long { length body.old.items + 1 ≡ PAGE }
-    ensures table { Finds (λ disk gate. OnSeen (λ s. table_at (layout_of area) second s
+    ensures table { Finds 2 (λ disk gate. OnSeen (λ s. table_at (layout_of area) second s
         ≡ table_with gate body.new.items) disk) (D.state disk.old) (D.state disk.new) result }
     ensures long { length body.new.items + 1 ≡ PAGE }
 {
@@ -59,6 +59,7 @@ fn settle_first<D: Disk>(disk: &mut D) -> Result<(), Failed>
     ensures passes { GoesBy (D.state disk.old) (D.state disk.new) }
     ensures unwritten { Unwritten (D.state disk.old) (D.state disk.new) }
     ensures told { Goes (D.state disk.old) (D.state disk.new) result }
+    ensures unread { HasNotRead (D.state disk.old) (D.state disk.new) }
     ensures cause { HasFault Sync (D.state disk.old) (D.state disk.new) result }
 {
     disk.sync()
@@ -72,7 +73,7 @@ pub(crate) fn read_tables<D: Disk>(
 ) -> Result<(u8, u8), Call>
     requires within { HasArea area (D.state disk.old) }
     requires scratch { IsScratch area scratch.old }
-    ensures { Finds (λ disk gates. HasTables area gates.0 gates.1 scratch.new disk)
+    ensures { Finds 4 (λ disk gates. HasTables area gates.0 gates.1 scratch.new disk)
         (D.state disk.old) (D.state disk.new) result }
 {
     let first_gate = match read_table(disk, area, false, &mut scratch.first) {
@@ -101,6 +102,7 @@ pub(crate) fn settle_and_read<D: Disk>(
     ensures passed { OnOk result (HavePassed 1 (D.state disk.old) (D.state disk.new)) }
     ensures calls { Went itself (D.state disk.old) (D.state disk.new) result }
     ensures few { MakesAtMost 1 one_of (D.state disk.old) (D.state disk.new) result }
+    ensures reads { ReadsAtMost 4 (D.state disk.old) (D.state disk.new) }
 {
     let Ok(()) = settle_first(disk) else {
         return Err(Call::Sync);

@@ -5,7 +5,7 @@ ghost use Rattle.dr_base.specs.declared.limits.TheConstants.{PAGE};
 ghost use Rattle.dr_disk.specs.State.{Always, IsSettled, OnSeen};
 ghost use Rattle.pages.specs.declared.layout.TheConstants.{OPEN};
 ghost use Rattle.pages.specs.Clearing.{AreReadBlank, AreUnmarked, KeepsShots};
-ghost use Rattle.pages.specs.Counted.{MakesAtMost, one_of, tidyings};
+ghost use Rattle.pages.specs.Counted.{MakesAtMost, ReadsAtMost, lookings, one_of, tidyings};
 ghost use Rattle.pages.specs.Runs.{IsUntouched};
 ghost use Rattle.pages.specs.Tables.{table_at};
 ghost use Rattle.pages.specs.Tidying.{AreNamed, IsMute, IsTidied};
@@ -64,6 +64,7 @@ fn wipe_table<D: Disk>(
     ensures still { gate ≡ 0 → body.now ≡ replicate (PAGE - 1) 0
         → AreReadBlank (layout_of area) named.now (D.state disk.old)
         → IsUntouched (D.state disk.old) (D.state disk.new) }
+    ensures reads { ReadsAtMost (lookings (layout_of area)) (D.state disk.old) (D.state disk.new) }
     ensures few { MakesAtMost (tidyings (layout_of area)) one_of
         (D.state disk.old) (D.state disk.new) result }
 {

@@ -43,7 +43,8 @@ pub lawful_disk : (d : MemoryDisk) → IsLawful (state_of d)
 lawful_disk d =
     memory_lawful d.platter.bytes.items d.platter.durable.items d.platter.asked.items
     d.platter.marks.items d.meter.fate d.meter.passed
-    (record { reads = d.reads; writes = d.writes; syncs = d.syncs }) d.platter.agrees d.platter.asks
+    (record { reads = d.reads; writes = d.writes; syncs = d.syncs; tried = d.tried }) d.platter.agrees
+    d.platter.asks
     d.platter.one_mark_each
 
 pub ready_stopped : (n : ℕ) (client : Client) (store : SlotStore) (disk : MemoryDisk) → IsReady client store (state_of disk)

@@ -1,5 +1,5 @@
 -- What callers are told of an area that was opened.
-use Rattle.std.proofs.Common.{◌≡◌, ◌≢◌, inl, inr, ⊎_elim, ℕ, List, Option, Result, Ok, Err, OnOk, true, false, sym, ◌∙◌, ap₂, subst, arith}
+use Rattle.std.proofs.Common.{◌≡◌, ◌≢◌, ◌+◌, ◌*◌, inl, inr, ⊎_elim, ℕ, List, Option, Result, Ok, Err, OnOk, true, false, sym, ◌∙◌, ap₂, subst, arith}
 use Rattle.std.specs.Prelude.{IfErr, IfOk, is_ok}
 use Rattle.dr_base.specs.Causes.{Rose}
 use Rattle.dr_disk.specs.declared.call.Call.{Call}
@@ -10,16 +10,16 @@ use Rattle.dr_disk.specs.Called.{Went, itself}
 use Rattle.dr_disk.proofs.Calling.{then_any}
 use Rattle.dr_disk.proofs.Steps.{spans, widen}
 use Rattle.pages.specs.Runs.{IsUntouched}
-use Rattle.pages.specs.Counted.{MakesAtMost, one_of}
+use Rattle.pages.specs.Counted.{MakesAtMost, ReadsAtMost, lookings, one_of}
 use Rattle.pages.proofs.Counting.{few_failed, few_then}
-use Rattle.pages.proofs.Looking.{unwritten_twice}
+use Rattle.pages.proofs.Looking.{reads_twice, unwritten_twice}
 use Rattle.slot_store.specs.declared.errors.OpenError.TheVariants.{Damaged, Memory, StoreFault}
 use Rattle.slot_store.specs.declared.outcome.Outcome.{Outcome}
 use Rattle.slot_store.specs.declared.outcome.Outcome.TheVariants.{Refused, Stored}
-use Rattle.slot_store.specs.Areas.{Area}
+use Rattle.slot_store.specs.Areas.{Area, layout_of}
 use Rattle.slot_store.specs.AtRest.{IsLeft, IsReadAtRest}
 use Rattle.slot_store.specs.Found.{HasReadContent}
-use Rattle.slot_store.specs.Limits.{faulted, openings, settlings}
+use Rattle.slot_store.specs.Limits.{faulted, opening_reads, openings, settlings}
 use Rattle.slot_store.specs.Opened.{IsOpened, IsRefused}
 use Rattle.slot_store.specs.Outcome.{IsOutcome, IsOutcomeBy, OpensStore, opening_answer}
 use Rattle.slot_store.specs.Store.{content}
@@ -149,6 +149,9 @@ module _ {U : Type 0} (fault_at : List ℕ → Option ℕ) (area : Area) (start 
       by (Ok (Stored pager what)) is = is
       by (Ok (Refused slot at)) is = tt
       by (Err call) is = tt
+
+  pub answered_reads_few : ReadsAtMost 4 start a → ReadsAtMost (opening_reads area) start b
+  answered_reads_few first = reads_twice 4 (area.most + 2 * lookings (layout_of area)) (opening_reads area) start a b (omega arith) first opens.reads
 
   pub answered_few : MakesAtMost 1 one_of start a (Ok x)
       → MakesAtMost (openings area) faulted start b (opening_answer r)

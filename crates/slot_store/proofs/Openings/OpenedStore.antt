@@ -1,5 +1,5 @@
 -- A pager that was opened over what was read.
-use Rattle.std.proofs.Common.{◌≡◌, ℕ, true, false, List, Option, Some, None, Result, Ok, Err, OnOk, refl, sym, ◌∙◌, ap, subst, arith}
+use Rattle.std.proofs.Common.{◌≡◌, ◌+◌, ◌*◌, ℕ, true, false, List, Option, Some, None, Result, Ok, Err, OnOk, refl, sym, ◌∙◌, ap, subst, arith}
 use Rattle.std.specs.Prelude.{is_some}
 use Rattle.dr_disk.specs.declared.call.Call.{Call}
 use Rattle.dr_disk.specs.State.{Always, DiskState, IsSettled, OnSeen}
@@ -8,16 +8,16 @@ use Rattle.dr_disk.specs.Called.{Went, itself}
 use Rattle.dr_disk.proofs.Calling.{failed_as, passed_as, then_any}
 use Rattle.dr_disk.proofs.Steps.{spans, widen}
 use Rattle.pages.specs.Runs.{IsUntouched, ReadsAlone}
-use Rattle.pages.specs.Counted.{MakesAtMost, one_of}
+use Rattle.pages.specs.Counted.{MakesAtMost, ReadsAtMost, lookings, one_of}
 use Rattle.pages.proofs.Counting.{few_as, few_failed, few_looked, few_then}
-use Rattle.pages.proofs.Looking.{untouched_twice}
+use Rattle.pages.proofs.Looking.{reads_more, reads_twice, untouched_twice}
 use Rattle.slot_store.specs.Limits.{settlings}
 use Rattle.slot_store.specs.declared.pager.Pager.{Pager}
 use Rattle.slot_store.specs.declared.opening.Found.{Found}
 use Rattle.slot_store.specs.declared.opening.Found.TheVariants.{Content, NoContent}
 use Rattle.slot_store.specs.declared.outcome.Outcome.{Outcome}
 use Rattle.slot_store.specs.declared.outcome.Outcome.TheVariants.{Refused, Stored}
-use Rattle.slot_store.specs.Areas.{Area}
+use Rattle.slot_store.specs.Areas.{Area, layout_of}
 use Rattle.slot_store.specs.Found.{found_as, has_content}
 use Rattle.slot_store.specs.Outcome.{OpensStore}
 use Rattle.slot_store.specs.AtRest.{IsAtRest, IsReadAtRest}
@@ -31,14 +31,14 @@ use Rattle.slot_store.proofs.Standing.{rests_seen}
 use Rattle.slot_store.proofs.Wipings.Wiping.{on_ok}
 
 -- reads alone leave what was read
-pub looked_like : {T : Type 0} (area : Area) (start b : DiskState) (r : Result T Call) → IsSettled start → ReadsAlone start b r
+pub looked_like : {T : Type 0} {k : ℕ} (area : Area) (start b : DiskState) (r : Result T Call) → IsSettled start → ReadsAlone k start b r
     → Span start b (IsLikeRead area start)
 looked_like area start b r settled looks =
     widen start b start.image (IsLikeRead area start) (λ c left. as_read area start c (settled c left)) looks.during
 
 -- after reads alone, all else was wiped
-module _ {T U : Type 0} (pager : Pager) (x : U) (start b now : DiskState) (r : Result T Call) (settled : IsSettled start)
-    (looks : ReadsAlone start b (Ok x)) (shown : OnSeen (HasShot pager) start) (settles : Settles pager b now r) where
+module _ {T U : Type 0} {k : ℕ} (pager : Pager) (x : U) (start b now : DiskState) (r : Result T Call) (settled : IsSettled start)
+    (looks : ReadsAlone k start b (Ok x)) (shown : OnSeen (HasShot pager) start) (settles : Settles pager b now r) where
   same : b.seen ≡ start.seen
   same = looks.untouched.unwritten.seen
 
@@ -62,6 +62,9 @@ module _ {T U : Type 0} (pager : Pager) (x : U) (start b now : DiskState) (r : R
     (is_same pager was.bytes (shown was.bytes was.told) was.mark was.text was.rests).rests_too,
   ))
 
+  pub opened_reads : ReadsAtMost (k + 2 * lookings (layout_of pager.area)) start now
+  opened_reads = reads_twice k (2 * lookings (layout_of pager.area)) _ start b now (omega arith) looks.few settles.reads
+
   pub opened_few : MakesAtMost (settlings pager.area) one_of start now r
   opened_few = few_then 0 (settlings pager.area) (settlings pager.area) x start b now r (omega arith)
       (few_looked 0 start b (Ok x) looks) settles.few
@@ -80,8 +83,14 @@ found_reading Content (Some text) is = refl
 
 -- ---- what opening comes to
 
+-- the pages of a pager's area are those of the area
+same_most : (area other : Area) (start now : DiskState) → other ≡ area
+    → ReadsAtMost (area.most + 2 * lookings (layout_of other)) start now
+    → ReadsAtMost (other.most + 2 * lookings (layout_of other)) start now
+same_most area other start now is = reads_more _ _ start now (omega (arith, ap (λ a. a.most) is))
+
 module _ {T U : Type 0} (fault_at : List ℕ → Option ℕ) (area : Area) (pager : Pager) (is_area : pager.area ≡ area) (x : U)
-    (start b now : DiskState) (settled : IsSettled start) (looks : ReadsAlone start b (Ok x))
+    (start b now : DiskState) (settled : IsSettled start) (looks : ReadsAlone area.most start b (Ok x))
     (shown : OnSeen (HasShot pager) start) where
   pub opens_stored : (what : Found) (y : T) → Settles pager b now (Ok y)
       → OnSeen (λ s. area_reading fault_at area s ≡ reading_of (content pager)) start
@@ -103,6 +112,7 @@ module _ {T U : Type 0} (fault_at : List ℕ → Option ℕ) (area : Area) (page
     any_moment = opened_moment pager x start b now (Ok y) settled looks shown settles;
     still = opened_still pager x start b now (Ok y) settled looks shown settles;
     calls = passed_as itself itself (Stored pager what) y start now (opened_calls pager x start b now (Ok y) settled looks shown settles);
+    reads = same_most area pager.area start now is_area (opened_reads pager x start b now (Ok y) settled looks shown settles);
     few = few_as _ (Stored pager what) y start now (opened_few pager x start b now (Ok y) settled looks shown settles);
   })
 
@@ -113,28 +123,31 @@ module _ {T U : Type 0} (fault_at : List ℕ → Option ℕ) (area : Area) (page
     still = opened_still {T = T} pager x start b now (Err call) settled looks shown settles;
     calls = failed_as {T = Outcome} {U = T} itself itself call call start now refl
         (opened_calls {T = T} pager x start b now (Err call) settled looks shown settles);
+    reads = same_most area pager.area start now is_area (opened_reads {T = T} pager x start b now (Err call) settled looks shown settles);
     few = few_failed {T = Outcome} {U = T} _ (settlings pager.area) call start now (omega arith)
         (opened_few {T = T} pager x start b now (Err call) settled looks shown settles);
   })
 
 -- what was read is damaged, or a read failed
 module _ {U : Type 0} (fault_at : List ℕ → Option ℕ) (area : Area) (start now : DiskState) (settled : IsSettled start) where
-  pub opens_refused : (slot at : ℕ) (x : U) → ReadsAlone start now (Ok x) → OnSeen (λ s. area_reading fault_at area s ≡ damaged slot at) start
+  pub opens_refused : (slot at : ℕ) (x : U) → ReadsAlone area.most start now (Ok x) → OnSeen (λ s. area_reading fault_at area s ≡ damaged slot at) start
       → OpensStore fault_at area start now (Ok (Refused slot at))
   opens_refused slot at x looks is = record {
     found = (looks.untouched, is);
     any_moment = looked_like area start now (Ok x) settled looks;
     still = λ was. looks.untouched;
     calls = passed_as itself itself (Refused slot at) x start now looks.calls;
+    reads = reads_more area.most (area.most + 2 * lookings (layout_of area)) start now (omega arith) looks.few;
     few = few_as _ (Refused slot at) x start now (few_looked (settlings area) start now (Ok x) looks);
   }
 
-  pub opens_unread : (call : Call) → ReadsAlone {T = U} start now (Err call) → OpensStore fault_at area start now (Err call)
+  pub opens_unread : (call : Call) → ReadsAlone {T = U} area.most start now (Err call) → OpensStore fault_at area start now (Err call)
   opens_unread call looks = record {
     found = tt;
     any_moment = looked_like {T = U} area start now (Err call) settled looks;
     still = λ was. looks.untouched;
     calls = failed_as {T = Outcome} {U = U} itself itself call call start now refl looks.calls;
+    reads = reads_more area.most (area.most + 2 * lookings (layout_of area)) start now (omega arith) looks.few;
     few = few_failed {T = Outcome} {U = U} 0 (settlings area) call start now (omega arith)
         (few_looked {T = U} 0 start now (Err call) looks);
   }

@@ -31,7 +31,7 @@ module _ (area : Area) (first second : ℕ) (scratch : Scratch) (start now : Dis
       subst (λ a. HasTables a first second scratch now) (sym same) (tables_later size seen)
 
   -- and a crash still leaves it
-  pub settling_later : {T : Type 0} (pager : Pager) (x : T) → pager.area ≡ area → ReadsAlone start now (Ok x)
+  pub settling_later : {T : Type 0} {k : ℕ} (pager : Pager) (x : T) → pager.area ≡ area → ReadsAlone k start now (Ok x)
       → IsSettled start → OnSeen (HasShot pager) start → MaySettle pager now
   settling_later pager x same looks settled shown = record {
     ready = record {

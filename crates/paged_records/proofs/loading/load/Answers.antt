@@ -4,7 +4,7 @@ use Rattle.dr_base.specs.declared.limits.TheConstants.{PAGE}
 use Rattle.record_pages.specs.Tables.{length_in, nonzero_from, or_else, record_names}
 use Rattle.paged_records.specs.Faults.{behind_table}
 use Rattle.paged_records.proofs.LoadedPages.{are_pages, behind_none, count, faultless_by, few, fits, loaded_blank, loaded_fault, loaded_pages}
-use Rattle.pages.proofs.Looking.{looks_as}
+use Rattle.pages.proofs.Looking.{looks_as, looks_failed}
 use Rattle.paged_records.proofs.Paging.{covered, fewest}
 use Rattle.paged_records.proofs.loading.load.Goals as goal
 
@@ -47,7 +47,12 @@ record_fault-requires-clause-short g c =
 
 pub returns-in-Some-record_fault-clause-loaded : goal.returns-in-Some-record_fault-clause-loaded
 returns-in-Some-record_fault-clause-loaded g c = record {
-  looks = looks_as _ _ _ _ c.in-Ok.ensures.looks;
+  looks =
+      let faultless = faultless_by c.args.bounds _ _ _ c.args.body.now _ c.least_number-least.ensures.least c.number_end-total.ensures.end c.record_most.ensures.most
+      c.table_fault.ensures.fault c.in_default.is in
+      let names : c.deref.result.now ≡ record_names c.args.body.now = c.deref.ensures.value ∙ c.table_fault.ensures.numbers c.in_default.is in
+      let less = few c.args.bounds c.args.body.now c.deref.result.now (length_in c.args.body.now) faultless names refl in
+      looks_as _ _ _ _ (omega (arith, less)) c.in-Ok.ensures.looks;
   found = λ s told.
       let faultless = faultless_by c.args.bounds _ _ _ c.args.body.now _ c.least_number-least.ensures.least c.number_end-total.ensures.end c.record_most.ensures.most
       c.table_fault.ensures.fault c.in_default.is in
@@ -109,7 +114,12 @@ returns-clause-named g c =
 
 pub returns-clause-loaded : goal.returns-clause-loaded
 returns-clause-loaded g c = record {
-  looks = looks_as _ _ _ _ c.in-Ok.ensures.looks;
+  looks =
+      let faultless = faultless_by c.args.bounds _ _ _ c.args.body.now _ c.least_number-least.ensures.least c.number_end-total.ensures.end c.record_most.ensures.most
+      c.table_fault.ensures.fault c.in_default.is in
+      let names : c.deref.result.now ≡ record_names c.args.body.now = c.deref.ensures.value ∙ c.table_fault.ensures.numbers c.in_default.is in
+      let less = few c.args.bounds c.args.body.now c.deref.result.now (length_in c.args.body.now) faultless names refl in
+      looks_as _ _ _ _ (omega (arith, less)) c.in-Ok.ensures.looks;
   found = λ s told.
       let faultless = faultless_by c.args.bounds _ _ _ c.args.body.now _ c.least_number-least.ensures.least c.number_end-total.ensures.end c.record_most.ensures.most
       c.table_fault.ensures.fault c.in_default.is in
@@ -129,3 +139,11 @@ pub returns-clause-read : goal.returns-clause-read
 returns-clause-read g c =
     subst (λ (l : List ℕ). g.G.Grammar.has_read c.record_fault.new.reader (take c.record_length-len.result l)) c.deref-2.ensures.value
     (c.record_fault.ensures.read (subst IsNone (sym c.in_default-record_fault.is) refl))
+
+pub returns-in-Err-clause-loaded : goal.returns-in-Err-clause-loaded
+returns-in-Err-clause-loaded g c =
+    let faultless = faultless_by c.args.bounds _ _ _ c.args.body.now _ c.least_number-least.ensures.least c.number_end-total.ensures.end c.record_most.ensures.most
+    c.table_fault.ensures.fault c.in_default.is in
+    let names : c.deref.result.now ≡ record_names c.args.body.now = c.deref.ensures.value ∙ c.table_fault.ensures.numbers c.in_default.is in
+    let less = few c.args.bounds c.args.body.now c.deref.result.now (length_in c.args.body.now) faultless names refl in
+    record { found = tt; looks = looks_failed _ _ _ (omega (arith, less)) c.in-Err.ensures.looks }

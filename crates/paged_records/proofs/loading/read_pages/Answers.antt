@@ -1,10 +1,10 @@
-use Rattle.std.proofs.Common.{◌≡◌, ◌+◌, ◌-◌, ◌*◌, ◌≤◌, ℕ, List, length, map, get_or, sym, ◌∙◌, ap, subst, arith, length-drop, length-take}
+use Rattle.std.proofs.Common.{◌≡◌, ◌+◌, ◌-◌, ◌*◌, ◌≤◌, ℕ, List, length, map, sym, ◌∙◌, ap, subst, arith, length-drop, length-take}
 use Rattle.std.proofs.lemmas.List.{take_all}
 use Rattle.dr_base.specs.declared.limits.TheConstants.{PAGE}
 use Rattle.pages.specs.Layouts.{IsSound}
 use Rattle.pages.specs.Snapshots.{page_of}
 use Rattle.record_pages.specs.Pages.{cut}
-use Rattle.pages.proofs.Looking.{looks_twice}
+use Rattle.pages.proofs.Looking.{looks_as, looks_twice}
 use Rattle.paged_records.proofs.ReadPages.{put_before, put_here, read_more}
 use Rattle.paged_records.proofs.loading.read_pages.Goals as goal
 
@@ -27,14 +27,17 @@ pages-preserved g c =
           (put_here i _ c.pages.bytes page long size fits)
           (c.in-Ok.ensures.bytes s (c.pages.invariant.looks.untouched.unwritten.seen ∙ told))
           (c.pages.invariant.read s told);
-      looks = looks_twice (tt {0}) _ _ _ _ c.pages.invariant.looks c.in-Ok.ensures.looks;
+      looks = looks_twice (tt {0}) _ _ _ _ (omega arith) c.pages.invariant.looks c.in-Ok.ensures.looks;
     }
 
 pub returns-in-Err-clause-looks : goal.returns-in-Err-clause-looks
-returns-in-Err-clause-looks g c = looks_twice (tt {0}) _ _ _ _ c.pages.invariant.looks c.in-Err.ensures.looks
+returns-in-Err-clause-looks g c = looks_twice (tt {0}) _ _ _ _ (omega arith) c.pages.invariant.looks c.in-Err.ensures.looks
 
 pub returns-clause-pages : goal.returns-clause-pages
 returns-clause-pages g c = λ s told.
     let e : c.pages.i ≡ length c.args.numbers.now = omega (arith, c.pages-test.false, c.pages.auto.i-end) in
     ap (λ k. cut k c.pages.bytes) (sym e) ∙ c.pages.invariant.read s told
     ∙ ap (λ (l : List ℕ). map (page_of c.args.layout s) l) (take_all c.pages.i c.args.numbers.now (omega arith))
+
+pub returns-clause-looks : goal.returns-clause-looks
+returns-clause-looks g c = looks_as _ (tt {0}) _ _ (omega (arith, c.pages-test.false, c.pages.auto.i-end)) c.pages.invariant.looks

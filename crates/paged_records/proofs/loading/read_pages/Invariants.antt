@@ -9,5 +9,5 @@ use Rattle.paged_records.proofs.loading.read_pages.Given as goal
 abbrev pub invariant-pages : goal.invariant-pages
 invariant-pages g l = record {
   read : OnSeen (λ s. cut l.i l.bytes ≡ map (page_of l.layout s) (take l.i l.numbers)) (g.D.Disk.state l.fn.disk);
-  looks : ReadsAlone {T = Unit} (g.D.Disk.state l.fn.disk) (g.D.Disk.state l.disk) (Ok tt);
+  looks : ReadsAlone {T = Unit} l.i (g.D.Disk.state l.fn.disk) (g.D.Disk.state l.disk) (Ok tt);
 }

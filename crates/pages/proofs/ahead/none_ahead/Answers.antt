@@ -8,7 +8,7 @@ use Rattle.pages.proofs.ahead.none_ahead.Goals as goal
 
 pub returns-in_default-clause-looks : goal.returns-in_default-clause-looks
 returns-in_default-clause-looks g c =
-    looked _ _ _ c.end.ensures.passes c.end.ensures.unwritten c.in_default.ensures.told.passed
+    looked _ _ _ c.end.ensures.passes c.end.ensures.unwritten c.in_default.ensures.told.passed c.end.ensures.one_read
     (read_fails itself Read _ _ _ c.in_default.ensures.told c.in_default.ensures.cause) refl
 
 pub returns-clause-ahead : goal.returns-clause-ahead
@@ -18,5 +18,5 @@ returns-clause-ahead g c = λ bytes. nothing_ahead c.args.layout _ bytes
 
 pub returns-clause-looks : goal.returns-clause-looks
 returns-clause-looks g c =
-    looked _ _ _ c.end.ensures.passes c.end.ensures.unwritten c.in-Ok.ensures.told.passed
+    looked _ _ _ c.end.ensures.passes c.end.ensures.unwritten c.in-Ok.ensures.told.passed c.end.ensures.one_read
     (reads_well itself Read _ _ _ _ c.in-Ok.ensures.told c.in-Ok.ensures.cause) tt

@@ -20,7 +20,7 @@ read-requires g c =
 
 pub returns-in_default-clause-looks : goal.returns-in_default-clause-looks
 returns-in_default-clause-looks g c =
-    looked _ _ _ c.read.ensures.passes c.read.ensures.unwritten c.in_default.ensures.told.passed
+    looked _ _ _ c.read.ensures.passes c.read.ensures.unwritten c.in_default.ensures.told.passed c.read.ensures.one_read
     (read_fails itself Read _ _ _ c.in_default.ensures.told c.in_default.ensures.cause) refl
 
 pub returns-clause-pages : goal.returns-clause-pages
@@ -37,5 +37,5 @@ returns-clause-pages g c = λ s told j lt.
 
 pub returns-clause-looks : goal.returns-clause-looks
 returns-clause-looks g c =
-    looked _ _ _ c.read.ensures.passes c.read.ensures.unwritten c.in-Ok.ensures.told.passed
+    looked _ _ _ c.read.ensures.passes c.read.ensures.unwritten c.in-Ok.ensures.told.passed c.read.ensures.one_read
     (reads_well itself Read _ _ _ _ c.in-Ok.ensures.told c.in-Ok.ensures.cause) tt

@@ -1,5 +1,7 @@
-use Rattle.std.proofs.Common.{sym, subst, ap, ◌∙◌}
+use Rattle.std.proofs.Common.{sym, subst, ap, ◌∙◌, arith}
 use Rattle.pages.proofs.Looking.{looks_as, looks_failed, looks_twice}
+use Rattle.pages.specs.Counted.{lookings}
+use Rattle.slot_store.specs.Areas.{layout_of}
 use Rattle.slot_store.specs.Locating.{HoldsWhatCounts, IsLocated}
 use Rattle.slot_store.specs.Reports.{finding_of}
 use Rattle.slot_store.proofs.Openings.Reported.{gate_told, rests_found}
@@ -26,11 +28,17 @@ returns-in-Ok g c =
         rest = rests_found g.G.Grammar.fault_at c.args.area start c.in-Ok-Held.pager held s told c.in-Ok.rest
             (c.in-Ok.ensures.found s (c.in-Ok-Held.ensures.located.looks.untouched.unwritten.seen ∙ told));
       };
-      looks = looks_twice _ _ _ _ _ c.in-Ok-Held.ensures.located.looks (looks_as _ _ _ _ c.in-Ok.ensures.looks);
+      looks = looks_twice {more = lookings (layout_of c.args.area)} _ _ _ _ _ (omega arith) c.in-Ok-Held.ensures.located.looks
+          (looks_as _ _ _ _ (omega (arith, ap (λ a. lookings (layout_of a)) held.area_is)) c.in-Ok.ensures.looks);
     }
 
 pub returns : goal.returns
-returns g c = record {
-  found = tt;
-  looks = looks_twice _ _ _ _ _ c.in-Ok-Held.ensures.located.looks (looks_failed _ _ _ c.in-Err-rests.ensures.looks);
-}
+returns g c =
+    let start = g.D.Disk.state c.args.disk.now in
+    let held : HoldsWhatCounts g.G.Grammar.fault_at c.args.area start c.in-Ok-Held.pager =
+    subst (IsLocated g.G.Grammar.fault_at c.args.area start) c.in-Ok-Held.field-0-is c.in-Ok-Held.ensures.located.found in
+    record {
+      found = tt;
+      looks = looks_twice {more = lookings (layout_of c.args.area)} _ _ _ _ _ (omega arith) c.in-Ok-Held.ensures.located.looks
+          (looks_failed _ _ _ (omega (arith, ap (λ a. lookings (layout_of a)) held.area_is)) c.in-Err-rests.ensures.looks);
+    }

@@ -1,6 +1,6 @@
 use Rattle.std.proofs.Common.{arith, ap, subst, sym, ◌∙◌}
 use Rattle.dr_disk.specs.State.{OnSeen}
-use Rattle.pages.proofs.Looking.{looks_as}
+use Rattle.pages.proofs.Looking.{looks_as, looks_failed}
 use Rattle.paged_records.specs.declared.loading.Loaded.TheVariants.{Whole}
 use Rattle.paged_records.specs.Loading.{IsNamed, IsReadRecord}
 use Rattle.pages.specs.Layouts.{IsSound}
@@ -18,13 +18,16 @@ returns-in-Ok-Faulty-clause-located g c = record {
       (loaded_as g.G.Grammar.fault_at c.args.area _ c.args.body.now _ _ c.bounds.ensures.bounds c.in-Ok-Faulty.field-0-is _ s
       c.layout.ensures.layout (c.in-Ok-Faulty.ensures.loaded.found s told))
       c.number.ensures;
-  looks = looks_as _ _ _ _ c.in-Ok-Faulty.ensures.loaded.looks;
+  looks = looks_as _ _ _ _ (omega (arith, ap (λ b. b.most) c.bounds.ensures.bounds)) c.in-Ok-Faulty.ensures.loaded.looks;
 }
 
 pub pager_of-pager-requires-clause-entries : goal.pager_of-pager-requires-clause-entries
 pager_of-pager-requires-clause-entries g c =
     newer_entries g.G.Grammar.fault_at c.args.area c.args.body.now c.in-Ok-Whole.kept
     (named_as g.G.Grammar.fault_at c.args.area _ c.args.body.now _ _ c.bounds.ensures.bounds c.in-Ok-Whole.field-0-is c.in-Ok-Whole.ensures.named)
+
+pub returns-in-Err-clause-located : goal.returns-in-Err-clause-located
+returns-in-Err-clause-located g c = record { found = tt; looks = looks_failed _ _ _ (omega (arith, ap (λ b. b.most) c.bounds.ensures.bounds)) c.in-Err.ensures.loaded.looks }
 
 pub returns-clause-located : goal.returns-clause-located
 returns-clause-located g c =
@@ -50,7 +53,7 @@ returns-clause-located g c =
         first = newer_first fault_at c.args.area c.args.second body c.in-Ok-Whole.kept pager is.area is.second is.turn is.kept
             c.requires.long (λ i. omega (arith, c.type_inv.body i)) c.requires.opened named;
       };
-      looks = looks_as _ _ _ _ c.in-Ok-Whole.ensures.loaded.looks;
+      looks = looks_as _ _ _ _ (omega (arith, ap (λ b. b.most) c.bounds.ensures.bounds)) c.in-Ok-Whole.ensures.loaded.looks;
     }
 
 pub returns-clause-read : goal.returns-clause-read

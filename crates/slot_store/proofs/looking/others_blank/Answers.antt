@@ -4,6 +4,8 @@ use Rattle.std.proofs.lemmas.List.{length-replicate}
 use Rattle.dr_disk.specs.State.{OnSeen}
 use Rattle.pages.specs.declared.layout.Layout.{Layout}
 use Rattle.pages.specs.Clearing.{AreBlank}
+use Rattle.pages.specs.Counted.{lookings}
+use Rattle.pages.proofs.Looking.{looks_as, looks_failed}
 use Rattle.pages.specs.Layouts.{IsSound}
 use Rattle.record_pages.specs.Plans.{is_among}
 use Rattle.slot_store.proofs.Entries.{entries_inside}
@@ -25,7 +27,7 @@ pub returns-in-Ok-clause-blank : goal.returns-in-Ok-clause-blank
 returns-in-Ok-clause-blank g c = record {
   found = subst (λ (l : Layout). OnSeen (λ s. IsTrue c.in-Ok.blank ↔ AreBlank l c.mark_pages.new.named s)
       (g.D.Disk.state c.args.disk.now)) c.layout.ensures.layout c.in-Ok.ensures.blank;
-  looks = c.in-Ok.ensures.looks;
+  looks = looks_as _ _ _ _ (omega (arith, ap lookings c.layout.ensures.layout)) c.in-Ok.ensures.looks;
 }
 
 pub returns-in-Ok-clause-marks : goal.returns-in-Ok-clause-marks
@@ -49,3 +51,6 @@ are_blank-requires-clause-marks g c =
       ap length c.requires.marks,
       length-replicate c.args.pager.now.area.pages false,
     )
+
+pub returns-in-Err-clause-blank : goal.returns-in-Err-clause-blank
+returns-in-Err-clause-blank g c = record { found = tt; looks = looks_failed _ _ _ (omega (arith, ap lookings c.layout.ensures.layout)) c.in-Err.ensures.looks }

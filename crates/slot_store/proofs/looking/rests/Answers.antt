@@ -1,4 +1,4 @@
-use Rattle.std.proofs.Common.{◌≡◌, false, true, sym, ◌∙◌}
+use Rattle.std.proofs.Common.{◌≡◌, false, true, sym, ◌∙◌, arith}
 use Rattle.pages.proofs.Looking.{looks_as, looks_none}
 use Rattle.slot_store.proofs.Wipings.Wiped.{laid_blank, laid_by, laid_others, asked_of}
 use Rattle.slot_store.proofs.looking.rests.Goals as goal
@@ -18,7 +18,7 @@ returns-then-not-others_wiped g c = record {
 
 pub returns-in-Ok : goal.returns-in-Ok
 returns-in-Ok g c = record {
-  looks = looks_as _ _ _ _ c.in-Ok.ensures.blank.looks;
+  looks = looks_as _ _ _ _ (omega arith) c.in-Ok.ensures.blank.looks;
   found = λ s told.
       let asks = asked_of c.args.pager.now c.args.first_gate c.args.second_gate c.deref.result.now c.deref-2.result.now
       c.args.scratch.now.first.items c.args.scratch.now.second.items c.is_wiped-first.result c.is_wiped-second.result c.others_wiped.result s

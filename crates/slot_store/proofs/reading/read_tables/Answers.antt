@@ -1,14 +1,14 @@
-use Rattle.std.proofs.Common.{◌∙◌}
+use Rattle.std.proofs.Common.{◌∙◌, arith}
 use Rattle.pages.proofs.Looking.{looks_as, looks_failed, looks_twice}
 use Rattle.slot_store.proofs.reading.read_tables.Goals as goal
 
 pub returns-in-Err : goal.returns-in-Err
-returns-in-Err g c = record { found = tt; looks = looks_failed _ _ _ c.in-Err.ensures.table.looks }
+returns-in-Err g c = record { found = tt; looks = looks_failed _ _ _ (omega arith) c.in-Err.ensures.table.looks }
 
 pub returns-in-Err-read_table : goal.returns-in-Err-read_table
 returns-in-Err-read_table g c = record {
   found = tt;
-  looks = looks_twice _ _ _ _ _ c.in-Ok.ensures.table.looks (looks_failed _ _ _ c.in-Err-read_table.ensures.table.looks);
+  looks = looks_twice {more = 2} _ _ _ _ _ (omega arith) c.in-Ok.ensures.table.looks (looks_failed _ _ _ (omega arith) c.in-Err-read_table.ensures.table.looks);
 }
 
 pub returns-in-Ok-read_table : goal.returns-in-Ok-read_table
@@ -29,5 +29,5 @@ returns-in-Ok-read_table g c =
           second_is = λ s told. second.found s (first.looks.untouched.unwritten.seen ∙ told);
         };
       };
-      looks = looks_twice _ _ _ _ _ first.looks (looks_as _ _ _ _ second.looks);
+      looks = looks_twice {more = 2} _ _ _ _ _ (omega arith) first.looks (looks_as _ _ _ _ (omega arith) second.looks);
     }

@@ -1,9 +1,10 @@
-use Rattle.std.proofs.Common.{arith}
+use Rattle.std.proofs.Common.{refl, arith}
 use Rattle.dr_disk.specs.Called.{itself}
 use Rattle.dr_disk.specs.declared.call.Call.TheVariants.{Sync}
 use Rattle.dr_disk.proofs.Calling.{fails, goes_well, then_any}
 use Rattle.dr_disk.proofs.Steps.{spans, widen}
 use Rattle.pages.proofs.Counting.{few_looked, few_missed, few_passed, few_then}
+use Rattle.pages.proofs.Looking.{reads_by, reads_none}
 use Rattle.slot_store.proofs.Openings.TablesRead.{tables_later}
 use Rattle.slot_store.proofs.reading.settle_and_read.Goals as goal
 
@@ -53,3 +54,12 @@ pub returns-in-Ok-read_tables-clause-few : goal.returns-in-Ok-read_tables-clause
 returns-in-Ok-read_tables-clause-few g c =
     few_then 1 0 1 (tt {0}) _ _ _ _ (omega arith) (few_passed (tt {0}) _ _ c.in-Ok.ensures.told.passed)
     (few_looked 0 _ _ _ c.in-Ok-read_tables.ensures.looks)
+
+pub returns-in_default-clause-reads : goal.returns-in_default-clause-reads
+returns-in_default-clause-reads g c = reads_by 4 _ (g.D.Disk.state c.args.disk.now) _ _ refl (reads_none 4 _) c.settle_first.ensures.unread
+
+pub returns-in-Err-clause-reads : goal.returns-in-Err-clause-reads
+returns-in-Err-clause-reads g c = reads_by 4 _ _ _ _ c.settle_first.ensures.unread c.in-Err.ensures.looks.few refl
+
+pub returns-in-Ok-read_tables-clause-reads : goal.returns-in-Ok-read_tables-clause-reads
+returns-in-Ok-read_tables-clause-reads g c = reads_by 4 _ _ _ _ c.settle_first.ensures.unread c.in-Ok-read_tables.ensures.looks.few refl

@@ -1,10 +1,10 @@
-use Rattle.std.proofs.Common.{false, true, ap, length, refl, ◌∙◌, arith}
+use Rattle.std.proofs.Common.{◌*◌, false, true, ap, length, refl, ◌∙◌, arith}
 use Rattle.std.proofs.lemmas.List.{length-replicate}
 use Rattle.dr_disk.specs.Called.{itself}
 use Rattle.dr_disk.proofs.Calling.{failed_as, then_any}
-use Rattle.pages.specs.Counted.{tidyings}
+use Rattle.pages.specs.Counted.{lookings, tidyings}
 use Rattle.pages.proofs.Counting.{few_more, few_then}
-use Rattle.pages.proofs.Looking.{untouched_twice}
+use Rattle.pages.proofs.Looking.{reads_more, reads_twice, untouched_twice}
 use Rattle.slot_store.specs.Areas.{layout_of}
 use Rattle.slot_store.specs.Limits.{settlings}
 use Rattle.slot_store.proofs.Alike.{both_moments, left_like, like_shots}
@@ -44,6 +44,7 @@ returns-in-Err g c =
           (empty_gate pager c.requires.turn start rests false c.args.first_gate c.args.first.now c.requires.read.first_is)
           (empty_body pager c.requires.turn start rests false c.args.first_gate c.args.first.now c.requires.read.first_is)
           (empty_blank pager c.requires.turn c.args.named.now start rests);
+      reads = reads_more (lookings (layout_of pager.area)) (2 * lookings (layout_of pager.area)) start a (omega arith) c.wipe_table.ensures.reads;
       few = few_more {T = Unit {0}} (tidyings (layout_of pager.area)) (settlings pager.area) start a _ (omega arith) c.in-Err.ensures.few;
     }
 
@@ -105,6 +106,8 @@ returns g c =
           (empty_gate pager c.requires.turn start rests true c.args.second_gate c.args.second.now c.requires.read.second_is)
           (empty_body pager c.requires.turn start rests true c.args.second_gate c.args.second.now c.requires.read.second_is)
           (empty_blank pager c.requires.turn c.args.named.now a (rests.0, one.unwritten.seen ∙ rests.1, rests.2)));
+      reads = reads_twice (lookings (layout_of pager.area)) (lookings (layout_of pager.area)) (2 * lookings (layout_of pager.area))
+          start a b (omega arith) c.wipe_table.ensures.reads c.wipe_table-2.ensures.reads;
       few = few_then (tidyings (layout_of pager.area)) (tidyings (layout_of pager.area)) (settlings pager.area) _ start a b _ (omega arith)
           c.in-Ok.ensures.few c.wipe_table-2.ensures.few;
     }

@@ -1,8 +1,9 @@
-use Rattle.std.proofs.Common.{◌≡◌, false, ℕ, List, length, get_or, ◌∙◌, ap, subst, arith}
+use Rattle.std.proofs.Common.{◌≡◌, ◌*◌, false, ℕ, List, length, get_or, ◌∙◌, ap, subst, arith}
 use Rattle.std.specs.Prelude.{◌||◌}
 use Rattle.std.proofs.lemmas.List.{length-replicate}
-use Rattle.pages.specs.Counted.{tidyings}
+use Rattle.pages.specs.Counted.{lookings, tidyings}
 use Rattle.pages.proofs.Counting.{few_more}
+use Rattle.pages.proofs.Looking.{reads_more}
 use Rattle.record_pages.specs.Plans.{is_among}
 use Rattle.slot_store.specs.Areas.{layout_of}
 use Rattle.slot_store.specs.Limits.{settlings}
@@ -60,5 +61,6 @@ returns g c =
           (newer_gate pager c.requires.turn start settled c.requires.settling.shown c.args.gate c.args.other.now c.requires.read rests)
           (newer_body pager c.requires.turn start settled c.requires.settling.shown c.args.gate c.args.other.now c.requires.read rests)
           (newer_blank pager c.requires.turn start settled c.requires.settling.shown c.mark_pages.new.named marks rests);
+      reads = reads_more (lookings (layout_of pager.area)) (2 * lookings (layout_of pager.area)) start now (omega arith) c.wipe_table.ensures.reads;
       few = few_more (tidyings (layout_of pager.area)) (settlings pager.area) start now _ (omega arith) c.wipe_table.ensures.few;
     }

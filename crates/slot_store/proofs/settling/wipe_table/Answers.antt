@@ -1,10 +1,11 @@
 use Rattle.std.proofs.Common.{◌-◌, take, refl, sym, ap, subst, arith}
 use Rattle.dr_base.specs.declared.limits.TheConstants.{PAGE}
 use Rattle.pages.specs.Clearing.{AreReadBlank}
-use Rattle.pages.specs.Counted.{tidyings}
+use Rattle.pages.specs.Counted.{lookings, tidyings}
 use Rattle.pages.specs.Tables.{AreZeros}
 use Rattle.pages.specs.Tidying.{IsToTidy}
 use Rattle.pages.proofs.Counting.{few_more}
+use Rattle.pages.proofs.Looking.{reads_more}
 use Rattle.record_pages.specs.Tables.{record_names}
 use Rattle.slot_store.specs.Areas.{layout_of}
 use Rattle.slot_store.proofs.Wipings.Wiping.{blank_true, to_tidy, zeros_for}
@@ -43,3 +44,11 @@ pub returns-in-Err-clause-few : goal.returns-in-Err-clause-few
 returns-in-Err-clause-few g c = few_more {T = Unit {0}} (tidyings c.layout.result) (tidyings (layout_of c.args.area))
     (g.D.Disk.state c.args.disk.now) (g.D.Disk.state c.tidy.new.disk) _
     (omega (arith, ap tidyings c.layout.ensures.layout)) c.in-Err.ensures.few
+
+pub returns-in-Ok-clause-reads : goal.returns-in-Ok-clause-reads
+returns-in-Ok-clause-reads g c = reads_more (lookings c.layout.result) (lookings (layout_of c.args.area)) _ _
+    (omega (arith, ap lookings c.layout.ensures.layout)) c.tidy.ensures.reads
+
+pub returns-in-Err-clause-reads : goal.returns-in-Err-clause-reads
+returns-in-Err-clause-reads g c = reads_more (lookings c.layout.result) (lookings (layout_of c.args.area)) _ _
+    (omega (arith, ap lookings c.layout.ensures.layout)) c.tidy.ensures.reads

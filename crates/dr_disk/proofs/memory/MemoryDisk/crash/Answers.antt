@@ -12,5 +12,5 @@ returns-clause-left c =
     subst
     (λ (m : Metered). IsLeftBy c.args.mode (state_of c.args.self) (memory_state platter.bytes.items platter.durable.items
     platter.asked.items platter.marks.items m.fate m.passed
-    (record { reads = c.args.self.reads; writes = c.args.self.writes; syncs = c.args.self.syncs }))) (sym c.lifted.ensures.value)
+    (record { reads = c.args.self.reads; writes = c.args.self.writes; syncs = c.args.self.syncs; tried = c.args.self.tried }))) (sym c.lifted.ensures.value)
     (left_by_crash _ _ _ _ _ _ _ _ _ _ _ _ _ made.bytes made.durable made.asked made.marks)

@@ -11,9 +11,13 @@ pub returns-then-not-passes-clause-passes : goal.returns-then-not-passes-clause-
 returns-then-not-passes-clause-passes c =
     let meter = c.passes.ensures in
     let fails = c.if-not-passes.true in
+    let was = c.args.self.now in
     failing _ _ _ _ _ _ _ _ _ _ _ _ _ _ meter.fate meter.counted _
     meter.told fails (meter.stays fails)
-    refl (counts_grow _ _ (omega arith) (omega arith) c.count_fault.ensures.no_less)
+    refl
+    (counts_grow (record { reads = was.reads; writes = was.writes; syncs = was.syncs; tried = was.tried })
+    (record { reads = was.reads; writes = was.writes; syncs = c.count_fault.new.count; tried = was.tried })
+    (omega arith) (omega arith) c.count_fault.ensures.no_less)
 
 pub returns-clause-passes : goal.returns-clause-passes
 returns-clause-passes c =

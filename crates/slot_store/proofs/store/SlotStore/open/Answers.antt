@@ -1,16 +1,17 @@
-use Rattle.std.proofs.Common.{◌≡◌, ◌≢◌, ℕ, OnOk, sym, subst}
+use Rattle.std.proofs.Common.{◌≡◌, ◌≢◌, ℕ, OnOk, sym, subst, arith}
 use Rattle.std.specs.Prelude.{IfErr, IfOk}
 use Rattle.dr_disk.specs.declared.call.Call.{Call}
 use Rattle.dr_disk.specs.State.{all_pass}
 use Rattle.dr_disk.specs.Spans.{FailsLater, IsQuiet}
 use Rattle.pages.specs.Counted.{MakesAtMost}
-use Rattle.slot_store.specs.Limits.{faulted, openings}
+use Rattle.pages.proofs.Looking.{reads_more, reads_none}
+use Rattle.slot_store.specs.Limits.{faulted, opening_reads, openings}
 use Rattle.slot_store.specs.declared.errors.OpenError.TheVariants.{Memory, StoreFault}
 use Rattle.slot_store.specs.AtRest.{IsLeft}
 use Rattle.slot_store.specs.Found.{HasReadContent}
 use Rattle.slot_store.specs.Opened.{IsOpened, IsRefused}
 use Rattle.slot_store.specs.Store.{content}
-use Rattle.slot_store.proofs.Openings.Answered.{answered_ahead, answered_fate, answered_few, answered_memory, answered_moment, answered_opened, answered_quiet, answered_read, answered_reads, answered_refused, answered_still, faulted_few, memory_few, refused_by}
+use Rattle.slot_store.proofs.Openings.Answered.{answered_ahead, answered_fate, answered_few, answered_memory, answered_moment, answered_opened, answered_quiet, answered_read, answered_reads, answered_reads_few, answered_refused, answered_still, faulted_few, memory_few, refused_by}
 use Rattle.slot_store.proofs.store.SlotStore.open.Goals as goal
 
 pub returns-in-Err-clause-refused : goal.returns-in-Err-clause-refused
@@ -110,3 +111,16 @@ returns-in-Err-clause-few g c = faulted_few {U = ℕ × ℕ} c.args.area _ _ _ c
 
 pub returns-in_default-clause-few : goal.returns-in_default-clause-few
 returns-in_default-clause-few g c = memory_few c.args.area _
+
+pub returns-clause-looked : goal.returns-clause-looked
+returns-clause-looked g c =
+    answered_reads_few g.G.Grammar.fault_at c.args.area (g.D.Disk.state c.args.disk.now) (g.D.Disk.state c.settle_and_read.new.disk)
+    (g.D.Disk.state c.open_read.new.disk) c.in-Ok-settle_and_read.gates c.open_read.result c.settle_and_read.ensures.any_moment
+    c.settle_and_read.ensures.unwritten c.in-Ok-settle_and_read.ensures.settled c.in-Ok-settle_and_read.ensures.passed
+    c.in-Ok-settle_and_read.ensures.calls c.open_read.ensures.opens c.settle_and_read.ensures.reads
+
+pub returns-in-Err-clause-looked : goal.returns-in-Err-clause-looked
+returns-in-Err-clause-looked g c = reads_more 4 (opening_reads c.args.area) _ _ (omega arith) c.settle_and_read.ensures.reads
+
+pub returns-in_default-clause-looked : goal.returns-in_default-clause-looked
+returns-in_default-clause-looked g c = reads_none (opening_reads c.args.area) _
