@@ -4,7 +4,7 @@
 
 use dr_ports::{RandomDraws, ReaderSource, WriterSink};
 use file_disk::{FileDisk, Sharing};
-use messenger_cli::{DISK_SIZE, RELAY_DISK_SIZE, run_arguments};
+use messenger_cli::{DISK_SIZE, Ports, RELAY_DISK_SIZE, run_arguments};
 use rand::rngs::SysRng;
 use standard::take_closed;
 use std::env;
@@ -16,7 +16,7 @@ mod standard;
 fn main(rt: HostRuntime) -> ExitCode {
     let _placeholders = take_closed(&rt);
     // A session's file has its whole size from its first write on, a relay's from its opening on.
-    let mut disk = FileDisk::new(
+    let disk = FileDisk::new(
         &rt,
         "messenger.state",
         DISK_SIZE,
@@ -24,7 +24,7 @@ fn main(rt: HostRuntime) -> ExitCode {
         Sharing::InTurn,
     )
     .with_mark("messenger.state.unsynced");
-    let mut relay_disk = FileDisk::new(
+    let boxes = FileDisk::new(
         &rt,
         "relay.state",
         RELAY_DISK_SIZE,
@@ -33,21 +33,15 @@ fn main(rt: HostRuntime) -> ExitCode {
     )
     .with_mark("relay.state.unsynced")
     .whole_at_opening();
-    let mut source = ReaderSource::new(rt.stdin());
-    let mut out = WriterSink::new(rt.stdout());
-    let mut link = TcpLink::new(&rt);
-    let mut door = TcpDoor::new(&rt);
-    let mut draws = RandomDraws::new(SysRng::new(&rt));
-    let status = run_arguments(
-        rt.alloc(),
-        env::args(&rt),
-        &mut disk,
-        &mut relay_disk,
-        &mut source,
-        &mut out,
-        &mut link,
-        &mut door,
-        &mut draws,
-    );
+    let mut ports = Ports {
+        disk,
+        relay_disk: boxes,
+        source: ReaderSource::new(rt.stdin()),
+        sink: WriterSink::new(rt.stdout()),
+        link: TcpLink::new(&rt),
+        door: TcpDoor::new(&rt),
+        draws: RandomDraws::new(SysRng::new(&rt)),
+    };
+    let status = run_arguments(rt.alloc(), env::args(&rt), &mut ports);
     ExitCode::from(status.code)
 }

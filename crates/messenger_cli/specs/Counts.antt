@@ -6,7 +6,7 @@ use Rattle.dr_ports.specs.declared.pipe.Part.{Part}
 use Rattle.dr_ports.specs.declared.pipe.Part.TheVariants.{Gate}
 use Rattle.session_commands.specs.Disks.{HasClientRoom}
 use Rattle.relay_command.specs.declared.relaying.TheConstants.{RELAY_DISK_SIZE}
-use Rattle.messenger_cli.specs.Held.{Ports, PortsNow, Seen}
+use Rattle.messenger_cli.specs.Held.{PortTypes, PortsNow, Seen}
 
 -- the one disk has room for a session, the other for a relay's boxes
 pub record HaveRoom (disk relay_disk : DiskState) : Type 0 where
@@ -15,25 +15,25 @@ pub record HaveRoom (disk relay_disk : DiskState) : Type 0 where
 
 -- no call on a disk, no read, no write, no draw and no call on the link failed, and no listening
 -- or accepting of the door
-pub record IsQuietRun {P : Ports} (seen : Seen P)
+pub record IsQuietRun {P : PortTypes} (seen : Seen P)
     (old new : PortsNow P) : Type 0 where
   pub disk : IsQuiet (seen.disk old.disk) (seen.disk new.disk)
   pub relay_disk : IsQuiet (seen.relay_disk old.relay_disk) (seen.relay_disk new.relay_disk)
   pub source : (seen.source new.source).faults ≡ (seen.source old.source).faults
-  pub sink : new.sink.faults ≡ old.sink.faults
+  pub sink : (seen.sink new.sink).faults ≡ (seen.sink old.sink).faults
   pub draws : (seen.draws new.draws).faults ≡ (seen.draws old.draws).faults
   pub link : (part : Part) → (seen.link new.link).faults part ≡ (seen.link old.link).faults part
   pub door : (seen.door new.door).faults Gate ≡ (seen.door old.door).faults Gate
 
 -- status 0 says that none failed; and no count of reads or of writes falls
-pub record CountsFaults {P : Ports} (seen : Seen P)
+pub record CountsFaults {P : PortTypes} (seen : Seen P)
     (old new : PortsNow P) (code : ℕ) : Type 0 where
   pub quiet : code ≡ 0 → IsQuietRun seen old new
   pub reads : (seen.source old.source).faults ≤ (seen.source new.source).faults
-  pub writes : old.sink.faults ≤ new.sink.faults
+  pub writes : (seen.sink old.sink).faults ≤ (seen.sink new.sink).faults
 
 -- a run that comes to this, and counts what failed
-pub record IsRun {P : Ports}
+pub record IsRun {P : PortTypes}
     (comes : Seen P → PortsNow P → PortsNow P → ℕ → Type 0)
     (seen : Seen P) (old new : PortsNow P) (code : ℕ) : Type 0 where
   pub comes_to : comes seen old new code

@@ -3,9 +3,10 @@
 ghost use Rattle.std.specs.Prelude.{◌≡◌, IfOk};
 ghost use Rattle.messenger_cli.specs.Arguments.{HasWords, ending_without_words, words_of};
 ghost use Rattle.messenger_cli.specs.Counts.{HaveRoom, IsRun};
-ghost use Rattle.messenger_cli.specs.Held.{held, ports_seen};
+ghost use Rattle.messenger_cli.specs.Held.{ports_seen};
 ghost use Rattle.messenger_cli.specs.Performing.{RunsArguments};
 
+use crate::ports::Ports;
 use crate::program::run;
 use dr_disk::Disk;
 use dr_ports::{Door, Draws, Link, Sink, Source};
@@ -48,33 +49,15 @@ fn words(alloc: Global, arguments: io::Result<Args>) -> Result<Vec<String>, Endi
 pub fn run_arguments<D: Disk, R: Disk, S: Source, O: Sink, L: Link, A: Door, W: Draws>(
     alloc: Global,
     arguments: io::Result<Args>,
-    disk: &mut D,
-    relay_disk: &mut R,
-    source: &mut S,
-    out: &mut O,
-    link: &mut L,
-    door: &mut A,
-    draws: &mut W,
+    ports: &mut Ports<D, R, S, O, L, A, W>,
 ) -> Status
-    requires { HaveRoom (D.state disk.old) (R.state relay_disk.old) }
+    requires { HaveRoom (D.state ports.old.disk) (R.state ports.old.relay_disk) }
     ensures { IsRun (RunsArguments arguments)
-        (ports_seen D.state R.state S.at L.port A.port W.at)
-        (held disk.old relay_disk.old source.old link.old door.old draws.old (O.at out.old))
-        (held disk.new relay_disk.new source.new link.new door.new draws.new (O.at out.new))
-        result.code }
+        (ports_seen D.state R.state S.at O.at L.port A.port W.at)
+        ports.old ports.new result.code }
 {
     match words(alloc, arguments) {
-        Ok(words) => run(
-            alloc,
-            words.as_slice(),
-            disk,
-            relay_disk,
-            source,
-            out,
-            link,
-            door,
-            draws,
-        ),
-        Err(ending) => finish(out, ending),
+        Ok(words) => run(alloc, words.as_slice(), ports),
+        Err(ending) => finish(&mut ports.sink, ending),
     }
 }

@@ -5,6 +5,7 @@
 pub use arguments::run_arguments;
 pub use endings::Status;
 pub use law::limits;
+pub use ports::Ports;
 pub use program::{DISK_SIZE, run};
 pub use relay_command::{HALF_SIZE, RELAY_DISK_SIZE};
 
@@ -14,4 +15,5 @@ mod making;
 mod mechanisms;
 mod performing;
 mod playing;
+mod ports;
 mod program;

@@ -2,11 +2,12 @@
 
 ghost use Rattle.command_words.specs.Seen.{work_of};
 ghost use Rattle.messenger_cli.specs.Counts.{HaveRoom, IsRun};
-ghost use Rattle.messenger_cli.specs.Held.{held, ports_seen};
+ghost use Rattle.messenger_cli.specs.Held.{ports_seen};
 ghost use Rattle.messenger_cli.specs.Performing.{Performs};
 
 use crate::making::play_made;
 use crate::playing::play_script;
+use crate::ports::Ports;
 use command_lines::Listing;
 use command_words::Command;
 use dr_disk::Disk;
@@ -24,36 +25,37 @@ use std::alloc::Global;
 pub(crate) fn perform<D: Disk, R: Disk, S: Source, O: Sink, L: Link, A: Door, W: Draws>(
     alloc: Global,
     command: Command<'_>,
-    disk: &mut D,
-    relay_disk: &mut R,
-    source: &mut S,
-    out: &mut O,
-    link: &mut L,
-    door: &mut A,
-    draws: &mut W,
+    ports: &mut Ports<D, R, S, O, L, A, W>,
 ) -> Status
-    requires { HaveRoom (D.state disk.old) (R.state relay_disk.old) }
+    requires { HaveRoom (D.state ports.old.disk) (R.state ports.old.relay_disk) }
     ensures { IsRun (Performs (work_of command.entry))
-        (ports_seen D.state R.state S.at L.port A.port W.at)
-        (held disk.old relay_disk.old source.old link.old door.old draws.old (O.at out.old))
-        (held disk.new relay_disk.new source.new link.new door.new draws.new (O.at out.new))
-        result.code }
+        (ports_seen D.state R.state S.at O.at L.port A.port W.at)
+        ports.old ports.new result.code }
 {
+    let Ports {
+        disk,
+        relay_disk,
+        source,
+        sink,
+        link,
+        door,
+        draws,
+    } = ports;
     match command {
         Command::Begin(side, format) => begin::<Sntrup761, D, S, O>(
-            alloc, side, format, disk, source, out,
+            alloc, side, format, disk, source, sink,
         ),
-        Command::Say(text) => say::<Sntrup761, D, O, W>(alloc, text.as_bytes(), disk, out, draws),
-        Command::Take => take::<Sntrup761, D, S, O>(alloc, disk, source, out),
-        Command::Inbox => show::<Sntrup761, D, O>(alloc, Listing::Inbox, disk, out),
-        Command::Done(n) => drop_items::<Sntrup761, D, O>(alloc, Items::Texts, n, disk, out),
-        Command::Sent(n) => drop_items::<Sntrup761, D, O>(alloc, Items::Packets, n, disk, out),
-        Command::Outbox => show::<Sntrup761, D, O>(alloc, Listing::Outbox, disk, out),
-        Command::Awaiting => show::<Sntrup761, D, O>(alloc, Listing::Awaiting, disk, out),
-        Command::State => show::<Sntrup761, D, O>(alloc, Listing::State, disk, out),
-        Command::Check => check::<Sntrup761, D, O>(alloc, disk, out),
-        Command::Duet => play_script(alloc, source, out),
-        Command::Sync(address) => sync::<Sntrup761, D, L, O>(alloc, address, disk, link, out),
+        Command::Say(text) => say::<Sntrup761, D, O, W>(alloc, text.as_bytes(), disk, sink, draws),
+        Command::Take => take::<Sntrup761, D, S, O>(alloc, disk, source, sink),
+        Command::Inbox => show::<Sntrup761, D, O>(alloc, Listing::Inbox, disk, sink),
+        Command::Done(n) => drop_items::<Sntrup761, D, O>(alloc, Items::Texts, n, disk, sink),
+        Command::Sent(n) => drop_items::<Sntrup761, D, O>(alloc, Items::Packets, n, disk, sink),
+        Command::Outbox => show::<Sntrup761, D, O>(alloc, Listing::Outbox, disk, sink),
+        Command::Awaiting => show::<Sntrup761, D, O>(alloc, Listing::Awaiting, disk, sink),
+        Command::State => show::<Sntrup761, D, O>(alloc, Listing::State, disk, sink),
+        Command::Check => check::<Sntrup761, D, O>(alloc, disk, sink),
+        Command::Duet => play_script(alloc, source, sink),
+        Command::Sync(address) => sync::<Sntrup761, D, L, O>(alloc, address, disk, link, sink),
         Command::Relay { port, count, boxes } => relay(
             alloc,
             port,
@@ -61,8 +63,8 @@ pub(crate) fn perform<D: Disk, R: Disk, S: Source, O: Sink, L: Link, A: Door, W:
             boxes.as_slice(),
             relay_disk,
             door,
-            out,
+            sink,
         ),
-        Command::DuetMake { rounds, number } => play_made(alloc, rounds, number, out),
+        Command::DuetMake { rounds, number } => play_made(alloc, rounds, number, sink),
     }
 }

@@ -2,7 +2,6 @@
 //! writer.
 
 use crate::answers::{BEGUN, KEY, Row, SESSION, are_told};
-use crate::running::Network;
 use dr_disk::RecordingDisk;
 use file_disk::{FileDisk, Sharing};
 use messenger_cli::DISK_SIZE;
@@ -37,9 +36,8 @@ const ROWS: [Row<'static>; 13] = [
 
 /// Whether a disk that has room to record so many writes and syncs answers with these rows.
 fn is_recorded(alloc: Global, calls: usize, rows: &[Row<'_>]) -> Result<bool, AllocError> {
-    let mut disk = RecordingDisk::new(alloc, DISK_SIZE, calls, 2_097_152)?;
-    let mut network = Network::new(alloc, b"", b"")?;
-    are_told(alloc, &mut disk, &mut network, rows)
+    let disk = RecordingDisk::new(alloc, DISK_SIZE, calls, 2_097_152)?;
+    are_told(alloc, disk, rows)
 }
 
 // Past that room a call fails.
@@ -53,9 +51,8 @@ fn a_recorded_session(rt: HostRuntime) -> Result<(), Fail> {
 
 /// Whether a disk over the file at this path answers with this row.
 fn is_filed(rt: &HostRuntime, path: &str, row: Row<'_>) -> Result<bool, AllocError> {
-    let mut disk = FileDisk::new(rt, path, DISK_SIZE, DISK_SIZE, Sharing::InTurn);
-    let mut network = Network::new(rt.alloc(), b"", b"")?;
-    are_told(rt.alloc(), &mut disk, &mut network, &[row])
+    let disk = FileDisk::new(rt, path, DISK_SIZE, DISK_SIZE, Sharing::InTurn);
+    are_told(rt.alloc(), disk, &[row])
 }
 
 // One disk begins, and another one over the same file looks.

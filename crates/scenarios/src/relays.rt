@@ -1,14 +1,13 @@
 //! The commands that meet a relay, over links and doors in memory.
 
 use crate::answers::{BEGUN, KEY, Row, SESSION, are_answered};
-use crate::running::{Network, steady_disk};
+use crate::running::{InMemory, in_memory};
 use dr_ports::{MemoryLink, Stand};
 use std::alloc::{AllocError, Global};
 use std::test::Fail;
 
 /// Whether the program serves the box `a` to the one connection that there is.
-fn is_served(alloc: Global, network: &mut Network) -> Result<bool, AllocError> {
-    let mut disk = steady_disk(alloc)?;
+fn is_served(alloc: Global, ports: &mut InMemory) -> Result<bool, AllocError> {
     let twice = b"relay 4000\nconnection 1 ended 0\nconnection 2 ended 0\n";
     let rows: [Row<'_>; 4] = [
         ("relay|4000|1|a|a", b"", 3, b"refused: BadBox 2\n"),
@@ -21,20 +20,26 @@ fn is_served(alloc: Global, network: &mut Network) -> Result<bool, AllocError> {
         ("relay|4000|1|b", b"", 3, b"refused: BoxName 1\n"),
         ("relay|4000|2|a", b"", 0, twice),
     ];
-    are_answered(alloc, &mut disk, network, &rows)
+    are_answered(alloc, ports, &rows)
+}
+
+/// What is asked: fetch, post, fetch and acknowledge.
+const ASKED: &[u8] =
+    b"\x00\x03\x02\x01a\x00\x04\x01\x01a\x07\x00\x03\x02\x01a\x00\x0b\x03\x01a\x00\x00\x00\x00\x00\x00\x00\x01";
+
+/// What is replied.
+const REPLIED: &[u8] =
+    b"\x00\x01\x83\x00\x09\x81\x00\x00\x00\x00\x00\x00\x00\x01\x00\x0a\x82\x00\x00\x00\x00\x00\x00\x00\x01\x07\x00\x01\x84";
+
+/// Whether the relay that is asked so replies so.
+fn replies(alloc: Global) -> Result<bool, AllocError> {
+    let mut ports = in_memory(alloc, b"", ASKED)?;
+    Ok(is_served(alloc, &mut ports)? && ports.door.sent() == REPLIED)
 }
 
 #[test]
 fn serves_a_relay(rt: HostRuntime) -> Result<(), Fail> {
-    // fetch, post, fetch and acknowledge
-    let asked =
-        b"\x00\x03\x02\x01a\x00\x04\x01\x01a\x07\x00\x03\x02\x01a\x00\x0b\x03\x01a\x00\x00\x00\x00\x00\x00\x00\x01";
-    let mut network = Network::new(rt.alloc(), b"", asked)?;
-    assert!(rt; is_served(rt.alloc(), &mut network)?);
-    assert!(rt;
-        network.door.sent()
-            == b"\x00\x01\x83\x00\x09\x81\x00\x00\x00\x00\x00\x00\x00\x01\x00\x0a\x82\x00\x00\x00\x00\x00\x00\x00\x01\x07\x00\x01\x84".as_slice()
-    );
+    assert!(rt; replies(rt.alloc())?);
     Ok(())
 }
 
@@ -56,20 +61,25 @@ const SYNCED: [Row<'static>; 7] = [
 const FETCHED: &[u8] =
     b"\x00\x24\x02\x2270e0f9cd1a5863238d67aecce0c032e5-2\x00\x24\x02\x2270e0f9cd1a5863238d67aecce0c032e5-2";
 
-#[test]
-fn syncs_with_a_relay(rt: HostRuntime) -> Result<(), Fail> {
-    let alloc = rt.alloc();
-    let mut network = Network::new(alloc, REPLIES, b"")?;
-    let mut disk = steady_disk(alloc)?;
-    assert!(rt; are_answered(alloc, &mut disk, &mut network, &SYNCED)?);
-    assert!(rt; network.link.sent().starts_with(FETCHED));
-    assert!(rt; has_ended(&network.link));
-    Ok(())
-}
-
 /// Whether the link was connected to `127.0.0.1:4000`, and that connection has ended once all
 /// replies had come.
 fn has_ended(link: &MemoryLink) -> bool {
     link.address() == b"127.0.0.1:4000".as_slice()
         && matches!(link.stand(), Stand::Ended { received: 17, .. })
+}
+
+/// Whether Second does that over a link with these replies, which is asked so and ends so.
+fn is_synced(alloc: Global) -> Result<bool, AllocError> {
+    let mut ports = in_memory(alloc, REPLIES, b"")?;
+    Ok(
+        are_answered(alloc, &mut ports, &SYNCED)?
+            && ports.link.sent().starts_with(FETCHED)
+            && has_ended(&ports.link),
+    )
+}
+
+#[test]
+fn syncs_with_a_relay(rt: HostRuntime) -> Result<(), Fail> {
+    assert!(rt; is_synced(rt.alloc())?);
+    Ok(())
 }
