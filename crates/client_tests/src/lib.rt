@@ -25,6 +25,8 @@ mod once;
 #[cfg(test)]
 mod openings;
 #[cfg(test)]
+mod relayed;
+#[cfg(test)]
 mod renewals;
 #[cfg(test)]
 mod stops;
