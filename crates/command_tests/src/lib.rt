@@ -4,6 +4,8 @@
 #[cfg(test)]
 mod growing;
 #[cfg(test)]
+mod no_words;
+#[cfg(test)]
 mod outcomes;
 #[cfg(test)]
 mod sessions;

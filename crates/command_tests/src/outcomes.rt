@@ -82,3 +82,12 @@ pub fn outcome(
     let code = status_of(alloc, disk, command, fails, &mut out)?;
     Ok((code, out.taken().to_vec(alloc)?))
 }
+
+/// The packet of the position 0.1 in an outbox, in hex.
+pub fn first_packet(alloc: Global, disk: &mut MemoryDisk) -> Result<Vec<u8>, Fail> {
+    let (_, packets) = outcome(alloc, disk, Command::Outbox, &[])?;
+    match packets.strip_prefix(b"0.1 ") {
+        Some(packet) => Ok(packet.to_vec(alloc)?),
+        None => Err(Fail::from("another position")),
+    }
+}

@@ -1,6 +1,6 @@
 //! Each command once on disks in memory, and each fault.
 
-use crate::outcomes::{Command, new_disk, outcome};
+use crate::outcomes::{Command, first_packet, new_disk, outcome};
 use bodies::Format;
 use client::AREA_SIZE;
 use dr_base::Side;
@@ -31,15 +31,6 @@ fn all_end(alloc: Global, disk: &mut MemoryDisk, rows: &[Row<'_>]) -> Result<boo
         }
     }
     Ok(true)
-}
-
-/// The packet of the position 0.1 in an outbox, in hex.
-fn first_packet(alloc: Global, disk: &mut MemoryDisk) -> Result<Vec<u8>, Fail> {
-    let (_, packets) = outcome(alloc, disk, Command::Outbox, &[])?;
-    match packets.strip_prefix(b"0.1 ") {
-        Some(packet) => Ok(packet.to_vec(alloc)?),
-        None => Err(Fail::from("another position")),
-    }
 }
 
 /// The name of the session of the key of zeros is from another implementation of HKDF.

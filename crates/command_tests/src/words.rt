@@ -1,13 +1,13 @@
 //! Lines of words, with the command that each must be.
 
 use bodies::Format;
-use command_words::{Command, parse};
+use command_words::{Ask, Command, parse};
 use dr_base::Side;
 use std::alloc::{AllocError, Global};
 use std::test::Fail;
 
 /// The words between bars.
-fn words_of(alloc: Global, line: &str) -> Result<Vec<String>, AllocError> {
+pub fn words_of(alloc: Global, line: &str) -> Result<Vec<String>, AllocError> {
     let mut words = Vec::new(alloc);
     for word in line.split('|') {
         words.push(String::from_str(alloc, word)?)?;
@@ -15,180 +15,159 @@ fn words_of(alloc: Global, line: &str) -> Result<Vec<String>, AllocError> {
     Ok(words)
 }
 
-/// Whether the words are this command, or none.
-fn are(alloc: Global, line: &str, expected: Option<Command<'_>>) -> Result<bool, AllocError> {
+/// Words, what they ask for, and their values.
+type Row<'a> = (&'a str, Ask, &'a [&'a str]);
+
+/// Words of each command.
+const ROWS: [Row<'static>; 39] = [
+    (
+        "begin|first",
+        Ask::Begin(Side::First, Format::Plain),
+        &["first"],
+    ),
+    (
+        "begin|second",
+        Ask::Begin(Side::Second, Format::Plain),
+        &["second"],
+    ),
+    (
+        "begin|--|second",
+        Ask::Begin(Side::Second, Format::Plain),
+        &["second"],
+    ),
+    (
+        "begin|first|plain",
+        Ask::Begin(Side::First, Format::Plain),
+        &["first", "plain"],
+    ),
+    (
+        "begin|second|receipts",
+        Ask::Begin(Side::Second, Format::Receipts),
+        &["second", "receipts"],
+    ),
+    (
+        "begin|second|padded",
+        Ask::Begin(Side::Second, Format::Padded),
+        &["second", "padded"],
+    ),
+    (
+        "begin|first|--|padded",
+        Ask::Begin(Side::First, Format::Padded),
+        &["first", "padded"],
+    ),
+    ("say|hi", Ask::Say, &["hi"]),
+    ("say|two words", Ask::Say, &["two words"]),
+    ("say|", Ask::Say, &[""]),
+    ("say|-", Ask::Say, &["-"]),
+    ("say|a-b", Ask::Say, &["a-b"]),
+    ("say|--|-x", Ask::Say, &["-x"]),
+    ("say|--|--", Ask::Say, &["--"]),
+    ("say|hi|--", Ask::Say, &["hi"]),
+    ("say|help", Ask::Say, &["help"]),
+    ("take", Ask::Take, &[]),
+    ("take|--", Ask::Take, &[]),
+    ("inbox", Ask::Inbox, &[]),
+    ("done|0", Ask::Done(0), &["0"]),
+    ("done|128", Ask::Done(128), &["128"]),
+    ("done|+5", Ask::Done(5), &["+5"]),
+    ("done|007", Ask::Done(7), &["007"]),
+    ("sent|32", Ask::Sent(32), &["32"]),
+    ("outbox", Ask::Outbox, &[]),
+    ("awaiting", Ask::Awaiting, &[]),
+    ("state", Ask::State, &[]),
+    ("check", Ask::Check, &[]),
+    ("sync|127.0.0.1:4000", Ask::Sync, &["127.0.0.1:4000"]),
+    ("sync|--|-a", Ask::Sync, &["-a"]),
+    ("duet", Ask::Duet, &[]),
+    (
+        "duet-make|1|0",
+        Ask::DuetMake {
+            rounds: 1,
+            number: 0,
+        },
+        &["1", "0"],
+    ),
+    (
+        "duet-make|1000|18446744073709551615",
+        Ask::DuetMake {
+            rounds: 1000,
+            number: u64::MAX,
+        },
+        &["1000", "18446744073709551615"],
+    ),
+    (
+        "duet-make|--|+7|007",
+        Ask::DuetMake {
+            rounds: 7,
+            number: 7,
+        },
+        &["+7", "007"],
+    ),
+    (
+        "relay|65535|1000000|a",
+        Ask::Relay {
+            port: 65_535,
+            count: 1_000_000,
+        },
+        &["65535", "1000000", "a"],
+    ),
+    (
+        "relay|+4000|007|a|b|c",
+        Ask::Relay {
+            port: 4000,
+            count: 7,
+        },
+        &["+4000", "007", "a", "b", "c"],
+    ),
+    (
+        "relay|4000|1||a||",
+        Ask::Relay {
+            port: 4000,
+            count: 1,
+        },
+        &["4000", "1", "", "a", "", ""],
+    ),
+    (
+        "relay|4000|1|a|--|-b|--",
+        Ask::Relay {
+            port: 4000,
+            count: 1,
+        },
+        &["4000", "1", "a", "-b", "--"],
+    ),
+    (
+        "relay|--|4000|1|--|a",
+        Ask::Relay {
+            port: 4000,
+            count: 1,
+        },
+        &["4000", "1", "--", "a"],
+    ),
+];
+
+/// Whether a command has just these values.
+fn has(found: &Command<'_>, values: &[&str]) -> bool {
+    for (at, &value) in values.iter().enumerate() {
+        if found.value(at) != value {
+            return false;
+        }
+    }
+    found.values.len() == values.len()
+}
+
+/// Whether the words ask for this, with these values.
+fn are(alloc: Global, (line, ask, values): Row<'_>) -> Result<bool, AllocError> {
     let words = words_of(alloc, line)?;
-    let found = parse(alloc, words.as_slice())?;
-    Ok(found == expected)
+    match parse(alloc, words.as_slice())? {
+        Some(found) => Ok(found.ask == ask && has(&found, values)),
+        None => Ok(false),
+    }
 }
 
 #[test]
 fn words_are_commands(rt: HostRuntime) -> Result<(), Fail> {
-    let alloc = rt.alloc();
-    let commands = [
-        ("begin|first", Command::Begin(Side::First, Format::Plain)),
-        ("begin|second", Command::Begin(Side::Second, Format::Plain)),
-        (
-            "begin|--|second",
-            Command::Begin(Side::Second, Format::Plain),
-        ),
-        (
-            "begin|first|plain",
-            Command::Begin(Side::First, Format::Plain),
-        ),
-        (
-            "begin|second|receipts",
-            Command::Begin(Side::Second, Format::Receipts),
-        ),
-        (
-            "begin|second|padded",
-            Command::Begin(Side::Second, Format::Padded),
-        ),
-        (
-            "begin|first|--|padded",
-            Command::Begin(Side::First, Format::Padded),
-        ),
-        ("say|hi", Command::Say("hi")),
-        ("say|two words", Command::Say("two words")),
-        ("say|", Command::Say("")),
-        ("say|-", Command::Say("-")),
-        ("say|a-b", Command::Say("a-b")),
-        ("say|--|-x", Command::Say("-x")),
-        ("say|--|--", Command::Say("--")),
-        ("say|hi|--", Command::Say("hi")),
-        ("say|help", Command::Say("help")),
-        ("take", Command::Take),
-        ("take|--", Command::Take),
-        ("inbox", Command::Inbox),
-        ("done|0", Command::Done(0)),
-        ("done|128", Command::Done(128)),
-        ("done|+5", Command::Done(5)),
-        ("done|007", Command::Done(7)),
-        ("sent|32", Command::Sent(32)),
-        ("outbox", Command::Outbox),
-        ("awaiting", Command::Awaiting),
-        ("state", Command::State),
-        ("check", Command::Check),
-        ("sync|127.0.0.1:4000", Command::Sync("127.0.0.1:4000")),
-        ("sync|--|-a", Command::Sync("-a")),
-        ("duet", Command::Duet),
-        (
-            "duet-make|1|0",
-            Command::DuetMake {
-                rounds: 1,
-                number: 0,
-            },
-        ),
-        (
-            "duet-make|1000|18446744073709551615",
-            Command::DuetMake {
-                rounds: 1000,
-                number: u64::MAX,
-            },
-        ),
-        (
-            "duet-make|--|+7|007",
-            Command::DuetMake {
-                rounds: 7,
-                number: 7,
-            },
-        ),
-    ];
-    for (line, command) in commands {
-        assert!(rt; are(alloc, line, Some(command))?, "{line}");
+    for row in ROWS {
+        assert!(rt; are(rt.alloc(), row)?, "{}", row.0);
     }
-    Ok(())
-}
-
-#[test]
-fn words_are_relays(rt: HostRuntime) -> Result<(), Fail> {
-    let alloc = rt.alloc();
-    let relays = [
-        ("relay|65535|1000000|a", 65_535, 1_000_000, "a"),
-        ("relay|+4000|007|a|b|c", 4000, 7, "a|b|c"),
-        ("relay|4000|1||a||", 4000, 1, "|a||"),
-        ("relay|4000|1|a|--|-b|--", 4000, 1, "a|-b|--"),
-        ("relay|--|4000|1|--|a", 4000, 1, "--|a"),
-    ];
-    for (line, port, count, names) in relays {
-        let names = words_of(alloc, names)?;
-        let mut boxes = Vec::new(alloc);
-        for name in names.iter() {
-            boxes.push(name.as_str())?;
-        }
-        let relay = Command::Relay { port, count, boxes };
-        assert!(rt; are(alloc, line, Some(relay))?, "{line}");
-    }
-    Ok(())
-}
-
-/// Words of no command, a line each.
-const NONE: &str = "\
--
---
---|take
---help
--h
-help
-help|say
---version
-Take
-tak
-take|x
-take|--help
-take|-h
-take|--|--
-begin
-begin|third
-begin|First
-begin|first|first
-begin|first|other
-begin|first|Plain
-begin|first|receipt
-begin|first|
-begin|first|-padded
-begin|padded|first
-begin|plain
-begin|first|plain|plain
-begin|first|plain|--|x
-say
-say|--
-say|-x
-say|--text=hi
-say|hi|there
-say|hi|--|there
-done
-done|129
-done|-1
-done|--|-1
-done|
-done|+
-done|++5
-done|5 
-awaiting|1
-done|0x5
-done|18446744073709551680
-sent|33
-sync
-duet|x
-duet-make
-duet-make|0|1
-duet-make|1001|1
-duet-make|1|18446744073709551616
-relay|4000|1
-relay|0|1|a
-relay|65536|1|a
-relay|4000|0|a
-relay|4000|1000001|a
-relay|4000|1|a|-b";
-
-#[test]
-fn other_words_are_none(rt: HostRuntime) -> Result<(), Fail> {
-    let alloc = rt.alloc();
-    for line in NONE.split('\n') {
-        assert!(rt; are(alloc, line, None)?, "{line}");
-    }
-    assert!(rt; are(alloc, "", None)?);
-    assert!(rt; parse(alloc, &[])? == None);
     Ok(())
 }

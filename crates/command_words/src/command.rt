@@ -1,15 +1,19 @@
 //! What a command asks for.
 
+ghost use Rattle.std.specs.Prelude.{◌≡◌, drop};
+ghost use Rattle.clap.specs.Walk.{texts};
+ghost use Rattle.command_words.specs.Commands.{value};
+
 use bodies::Format;
 use dr_base::Side;
 
-/// A command, with its values.
-#[derive(PartialEq, Eq, Drop)]
-pub enum Command<'a> {
+/// What a command asks for.
+#[derive(Clone, Copy, PartialEq, Eq)]
+pub enum Ask {
     /// A session of this side begins, which seals its texts in this format.
     Begin(Side, Format),
-    /// The side says this text.
-    Say(&'a str),
+    /// The side says the text that is the first value.
+    Say,
     /// The side takes a packet.
     Take,
     /// The side shows its inbox.
@@ -26,19 +30,43 @@ pub enum Command<'a> {
     State,
     /// The side shows how its disk stands, and changes nothing.
     Check,
-    /// The side's boxes and those of the relay at this address are brought together.
-    Sync(&'a str),
-    /// A relay serves this many connections at a port, with these boxes, in order.
-    Relay {
-        port: u16,
-        count: u32,
-        boxes: Vec<&'a str>,
-    },
+    /// The side's boxes and those of the relay at the address that is the first value are brought
+    /// together.
+    Sync,
+    /// A relay serves this many connections at a port, with the boxes that are the values from the
+    /// third on, in order.
+    Relay { port: u16, count: u32 },
     /// A script plays both sides.
     Duet,
     /// A script of this many rounds, made from a number, plays both sides.
-    DuetMake {
-        rounds: u32,
-        number: u64,
-    },
+    DuetMake { rounds: u32, number: u64 },
+}
+
+/// A command, with the values that stand after its name.
+#[derive(PartialEq, Eq, Drop)]
+pub struct Command<'a> {
+    pub ask: Ask,
+    pub values: Vec<&'a str>,
+}
+
+impl<'a> Command<'a> {
+    /// The value at a place, and no bytes where none stands there.
+    pub fn value(&self, at: usize) -> &'a str
+        ensures { result.now ≡ value (texts self.now.values.items) at }
+    {
+        match self.values.as_slice().get(at) {
+            Some(value) => value,
+            None => "",
+        }
+    }
+
+    /// The values from the third on.
+    pub fn values_behind(&self) -> &[&'a str]
+        ensures { texts result.now ≡ drop 2 (texts self.now.values.items) }
+    {
+        match self.values.as_slice() {
+            [_, _, behind @ ..] => behind,
+            _ => &[],
+        }
+    }
 }

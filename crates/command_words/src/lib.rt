@@ -4,17 +4,19 @@
 //! are its values.
 //!
 //! ```rust
-//! use command_words::{Command, parse};
+//! use command_words::{Ask, parse};
 //!
-//! match parse(alloc, words)? {
-//!     Some(Command::Say(text)) => .. // `say TEXT`
-//!     Some(other) => ..
-//!     None => .. // the words are no command
+//! let Some(command) = parse(alloc, words)? else {
+//!     .. // the words are no command
+//! };
+//! match command.ask {
+//!     Ask::Say => .. // `say TEXT`: the text is `command.value(0)`
+//!     other => ..
 //! }
 //! ```
 #![tactic(auto)]
 
-pub use command::Command;
+pub use command::{Ask, Command};
 pub use limits::{CONNECTION_LIMIT, PORT_LIMIT, ROUND_LIMIT, limits_in_numbers};
 pub use words::parse;
 

@@ -65,7 +65,7 @@ pub fn parse<'a>(alloc: Global, words: &'a [String]) -> Result<Option<Command<'a
     match matches.subcommand() {
         Some((name, given)) => {
             let values = values_given(alloc, given)?;
-            named::command_named(alloc, name, values.as_slice())
+            Ok(named::command_named(name, values))
         }
         None => Ok(None),
     }

@@ -1,5 +1,5 @@
 -- What the program does, command by command.
-use Rattle.std.specs.Prelude.{Err, List, None, Ok, Option, Result, Some, String, [], map, string_bytes, ℕ, ◌≡◌, ◌⊎◌}
+use Rattle.std.specs.Prelude.{Err, List, None, Ok, Option, Result, Some, String, [], drop, map, string_bytes, ℕ, ◌≡◌, ◌⊎◌}
 use Rattle.std.specs.declared.alloc.Global.{Global}
 use Rattle.std.specs.declared.io.Error.{Error}
 use Rattle.std.specs.declared.vec.IntoIter.{IntoIter}
@@ -7,7 +7,9 @@ use Rattle.dr_model.specs.Machines.Acts.{dropping}
 use Rattle.endings.specs.Ends.{Ends}
 use Rattle.endings.specs.declared.ending.Ending.{Ending}
 use Rattle.endings.specs.declared.ending.Ending.TheVariants.{NoMemory, Usage}
-use Rattle.command_words.specs.Commands.{Work, command_of, begins, says, takes, shows_inbox, drops_done, drops_sent, shows_awaiting, shows_outbox, shows_state, checks, syncs, serves, plays, plays_made}
+use Rattle.command_words.specs.Commands.{Work, command_of, value}
+use Rattle.command_words.specs.declared.command.Ask.{Ask}
+use Rattle.command_words.specs.declared.command.Ask.TheVariants.{Begin, Check, Done, Duet, DuetMake, Relay, Say, Sent, Sync, Take, Awaiting as ShowsAwaiting, Inbox as ShowsInbox, Outbox as ShowsOutbox, State as ShowsState}
 use Rattle.command_lines.specs.Listings.{lines_of}
 use Rattle.command_lines.specs.declared.listing.Listing.{Listing}
 use Rattle.command_lines.specs.declared.listing.Listing.TheVariants.{Awaiting, Inbox, Outbox, State}
@@ -108,38 +110,40 @@ Shows listing seen old new code =
     WritesAlone (RunsShow seen.disk sntrup761_kem (lines_of listing)
     old.disk new.disk) seen old new code
 
--- What a command comes to. Sessions are over sntrup761.
-abbrev pub Performs : {P : PortTypes} → Work → Seen P
+-- What a command comes to, by what it asks for and its values. Sessions are over sntrup761.
+abbrev pub Performs : {P : PortTypes} → Ask → List (List ℕ) → Seen P
     → PortsNow P → PortsNow P → ℕ → Type 0
-Performs (begins side format) seen old new code =
+Performs (Begin side format) values seen old new code =
     ReadsAndWrites (RunsBegin seen.disk sntrup761_kem side format
     (seen.source old.source) (seen.source new.source) old.disk new.disk) seen old new code
-Performs (says text) seen old new code =
+Performs Say values seen old new code =
     DrawsAndWrites (RunsAct seen.disk sntrup761_kem
-    (asked_say seen.draws text old.draws new.draws) old.disk new.disk) seen old new code
-Performs takes seen old new code =
+    (asked_say seen.draws (value values 0) old.draws new.draws) old.disk new.disk) seen old new code
+Performs Take values seen old new code =
     ReadsAndWrites (RunsTake seen.disk sntrup761_kem
     (seen.source old.source) (seen.source new.source) old.disk new.disk) seen old new code
-Performs (drops_done n) seen old new code = Drops Texts n seen old new code
-Performs (drops_sent n) seen old new code = Drops Packets n seen old new code
-Performs shows_inbox seen old new code = Shows Inbox seen old new code
-Performs shows_outbox seen old new code = Shows Outbox seen old new code
-Performs shows_awaiting seen old new code = Shows Awaiting seen old new code
-Performs shows_state seen old new code = Shows State seen old new code
-Performs checks seen old new code =
+Performs (Done n) values seen old new code = Drops Texts n seen old new code
+Performs (Sent n) values seen old new code = Drops Packets n seen old new code
+Performs ShowsInbox values seen old new code = Shows Inbox seen old new code
+Performs ShowsOutbox values seen old new code = Shows Outbox seen old new code
+Performs ShowsAwaiting values seen old new code = Shows Awaiting seen old new code
+Performs ShowsState values seen old new code = Shows State seen old new code
+Performs Check values seen old new code =
     WritesAlone (RunsCheck seen.disk sntrup761_kem old.disk new.disk) seen old new code
-Performs plays seen old new code = PlaysAlone seen old new code
-Performs (plays_made rounds number) seen old new code = MakesAlone rounds number seen old new code
-Performs (serves port count boxes) seen old new code =
-    ServesAlone seen port count boxes old new code
-Performs (syncs address) seen old new code = SyncsAlone seen address old new code
+Performs Duet values seen old new code = PlaysAlone seen old new code
+Performs (DuetMake rounds number) values seen old new code =
+    MakesAlone rounds number seen old new code
+Performs (Relay port count) values seen old new code =
+    ServesAlone seen port count (drop 2 values) old new code
+Performs Sync values seen old new code = SyncsAlone seen (value values 0) old new code
 
 -- What the program does on words: what the command that they are comes to, or the last line of
 -- words that are none.
 abbrev pub AnswersWords : {P : PortTypes} → Option Work → Seen P
     → PortsNow P → PortsNow P → ℕ → Type 0
 AnswersWords None seen old new code = EndsIdle Usage seen old new code
-AnswersWords (Some work) seen old new code = Performs work seen old new code
+AnswersWords (Some work) seen old new code =
+    Performs work.ask work.values seen old new code
 
 -- or memory was wanting for the words, and nothing was done
 abbrev pub RunsProgram : {P : PortTypes} → Option Work → Seen P
@@ -152,4 +156,5 @@ abbrev pub RunsArguments : {P : PortTypes} → Result (IntoIter (String Global) 
     → Seen P → PortsNow P → PortsNow P → ℕ → Type 0
 RunsArguments (Ok arguments) seen old new code =
     RunsProgram (command_of (map string_bytes (words_of arguments))) seen old new code
-RunsArguments (Err error) seen old new code = EndsIdle (ending_without_words error) seen old new code
+RunsArguments (Err error) seen old new code =
+    EndsIdle (ending_without_words error) seen old new code

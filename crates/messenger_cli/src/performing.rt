@@ -9,7 +9,7 @@ use crate::making::play_made;
 use crate::playing::play_script;
 use crate::ports::Ports;
 use command_lines::Listing;
-use command_words::Command;
+use command_words::{Ask, Command};
 use dr_disk::Disk;
 use dr_ports::{Door, Draws, Link, Sink, Source};
 use endings::Status;
@@ -24,11 +24,11 @@ use std::alloc::Global;
 // alone.
 pub(crate) fn perform<D: Disk, R: Disk, S: Source, O: Sink, L: Link, A: Door, W: Draws>(
     alloc: Global,
-    command: Command<'_>,
+    command: &Command<'_>,
     ports: &mut Ports<D, R, S, O, L, A, W>,
 ) -> Status
     requires { HaveRoom (D.state ports.old.disk) (R.state ports.old.relay_disk) }
-    ensures { IsRun (Performs (work_of command.entry))
+    ensures { IsRun (Performs (work_of command.now).ask (work_of command.now).values)
         (ports_seen D.state R.state S.at O.at L.port A.port W.at)
         ports.old ports.new result.code }
 {
@@ -41,30 +41,36 @@ pub(crate) fn perform<D: Disk, R: Disk, S: Source, O: Sink, L: Link, A: Door, W:
         door,
         draws,
     } = ports;
-    match command {
-        Command::Begin(side, format) => begin::<Sntrup761, D, S, O>(
+    match command.ask {
+        Ask::Begin(side, format) => begin::<Sntrup761, D, S, O>(
             alloc, side, format, disk, source, sink,
         ),
-        Command::Say(text) => say::<Sntrup761, D, O, W>(alloc, text.as_bytes(), disk, sink, draws),
-        Command::Take => take::<Sntrup761, D, S, O>(alloc, disk, source, sink),
-        Command::Inbox => show::<Sntrup761, D, O>(alloc, Listing::Inbox, disk, sink),
-        Command::Done(n) => drop_items::<Sntrup761, D, O>(alloc, Items::Texts, n, disk, sink),
-        Command::Sent(n) => drop_items::<Sntrup761, D, O>(alloc, Items::Packets, n, disk, sink),
-        Command::Outbox => show::<Sntrup761, D, O>(alloc, Listing::Outbox, disk, sink),
-        Command::Awaiting => show::<Sntrup761, D, O>(alloc, Listing::Awaiting, disk, sink),
-        Command::State => show::<Sntrup761, D, O>(alloc, Listing::State, disk, sink),
-        Command::Check => check::<Sntrup761, D, O>(alloc, disk, sink),
-        Command::Duet => play_script(alloc, source, sink),
-        Command::Sync(address) => sync::<Sntrup761, D, L, O>(alloc, address, disk, link, sink),
-        Command::Relay { port, count, boxes } => relay(
+        Ask::Say => say::<Sntrup761, D, O, W>(
+            alloc,
+            command.value(0).as_bytes(),
+            disk,
+            sink,
+            draws,
+        ),
+        Ask::Take => take::<Sntrup761, D, S, O>(alloc, disk, source, sink),
+        Ask::Inbox => show::<Sntrup761, D, O>(alloc, Listing::Inbox, disk, sink),
+        Ask::Done(n) => drop_items::<Sntrup761, D, O>(alloc, Items::Texts, n, disk, sink),
+        Ask::Sent(n) => drop_items::<Sntrup761, D, O>(alloc, Items::Packets, n, disk, sink),
+        Ask::Outbox => show::<Sntrup761, D, O>(alloc, Listing::Outbox, disk, sink),
+        Ask::Awaiting => show::<Sntrup761, D, O>(alloc, Listing::Awaiting, disk, sink),
+        Ask::State => show::<Sntrup761, D, O>(alloc, Listing::State, disk, sink),
+        Ask::Check => check::<Sntrup761, D, O>(alloc, disk, sink),
+        Ask::Duet => play_script(alloc, source, sink),
+        Ask::Sync => sync::<Sntrup761, D, L, O>(alloc, command.value(0), disk, link, sink),
+        Ask::Relay { port, count } => relay(
             alloc,
             port,
             count,
-            boxes.as_slice(),
+            command.values_behind(),
             relay_disk,
             door,
             sink,
         ),
-        Command::DuetMake { rounds, number } => play_made(alloc, rounds, number, sink),
+        Ask::DuetMake { rounds, number } => play_made(alloc, rounds, number, sink),
     }
 }

@@ -39,6 +39,6 @@ pub fn run<D: Disk, R: Disk, S: Source, O: Sink, L: Link, A: Door, W: Draws>(
     match parse(alloc, words) {
         Err(AllocError) => finish(&mut ports.sink, Ending::NoMemory),
         Ok(None) => finish(&mut ports.sink, Ending::Usage),
-        Ok(Some(command)) => perform(alloc, command, ports),
+        Ok(Some(command)) => perform(alloc, &command, ports),
     }
 }

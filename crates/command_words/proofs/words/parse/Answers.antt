@@ -1,6 +1,5 @@
-use Rattle.std.proofs.Common.{◌∙◌, ap, string_bytes, map, sym, true≢false}
+use Rattle.std.proofs.Common.{◌∙◌, string_bytes, map, sym, true≢false}
 use Rattle.clap.specs.Simple.{app_of}
-use Rattle.std.proofs.lemmas.Result.{IfOk-weaker}
 use Rattle.clap.specs.Walk.{texts}
 use Rattle.command_words.proofs.Answering.{answered, are_texts, failed, unanswered}
 use Rattle.command_words.proofs.words.parse.Goals as goal
@@ -11,11 +10,10 @@ returns-in-Err c = failed (app_of c.in_ok-application.field-0) (map string_bytes
 
 pub returns-in-Some : goal.returns-in-Some
 returns-in-Some c =
-    let values = ap texts c.as_slice.ensures.value ∙ c.in_ok-values-in-Some.ensures in
-    IfOk-weaker c.command_named.result _ _ (λ found read. read
+    c.command_named.ensures
     ∙ answered (app_of c.in_ok-application.field-0) (map string_bytes c.args.words.now) (are_texts c.args.words.now) c.in_ok-application.ensures c.in-Ok.matches
-    c.in-Ok.ensures.kinds c.in-Ok.ensures.matches c.in-Some.given.now c.in-Some.name.now (texts c.as_slice.result.now)
-    c.in-Some.ensures.name c.in-Some.ensures.rows values) c.command_named.ensures
+    c.in-Ok.ensures.kinds c.in-Ok.ensures.matches c.in-Some.given.now c.in-Some.name.now (texts c.in_ok-values-in-Some.values.items)
+    c.in-Some.ensures.name c.in-Some.ensures.rows c.in_ok-values-in-Some.ensures
 
 pub returns : goal.returns
 returns c = unanswered (app_of c.in_ok-application.field-0) (map string_bytes c.args.words.now) (are_texts c.args.words.now) c.in_ok-application.ensures c.in-Ok.matches
