@@ -16,3 +16,4 @@ mod FaultlessBooks
 mod RowPlans
 mod Planning
 mod RowRecords
+pub mod Books

@@ -55,8 +55,8 @@ map_shifted f row [] = refl
 map_shifted f row (n ∷ ns) = ap (λ (l : List (List ℕ)). f (ROW_PAGES * row + n) ∷ l) (map_shifted f row ns)
 
 -- numbers of a row's pages that don't have this one among them
-apart : (row m : ℕ) (ns : List ℕ) → IsNone m ns → All (λ n. n ≢ ROW_PAGES * row + m) (shifted row ns)
-apart row m ns none = All-from_get_or (λ n. n ≢ ROW_PAGES * row + m) (shifted row ns) 0
+pub shifted_none : (row m : ℕ) (ns : List ℕ) → IsNone m ns → All (λ n. n ≢ ROW_PAGES * row + m) (shifted row ns)
+shifted_none row m ns none = All-from_get_or (λ n. n ≢ ROW_PAGES * row + m) (shifted row ns) 0
     (λ i lt. let below : i < length ns = omega (arith, lt, shifted_long row ns) in
     λ e. none i 0 below (omega (arith, e, shifted_at row ns i below)))
 
@@ -148,7 +148,7 @@ module _ (row len : ℕ) (bytes numbers : List ℕ)
       least = fresh_least;
       below = fresh_below;
       others = λ j lt. subst (λ m. All (λ n. n ≢ m) (shifted row numbers)) (sym (shifted_at row own j (inside j lt)))
-          (apart row (slice_index own j) numbers (unused j 0 (inside j lt)));
+          (shifted_none row (slice_index own j) numbers (unused j 0 (inside j lt)));
       entries = named_small;
       replanned = replanned;
     }

@@ -1,11 +1,12 @@
 -- Rows are staged one after the other, and one table is committed.
-use Rattle.std.specs.Prelude.{ℕ, ◌+◌, ◌*◌, ◌==◌, ◌≡◌, ◌≢◌, ◌<◌, ◌≤◌, Bool, List, [], ◌∷◌, All, if◌then◌else◌, length, map, not, slice_index, slice_range}
+use Rattle.std.specs.Prelude.{ℕ, ◌+◌, ◌*◌, ◌==◌, ◌≡◌, ◌≢◌, ◌<◌, ◌≤◌, Bool, List, [], ◌∷◌, All, Some, if◌then◌else◌, length, map, not, slice_index, slice_range}
 use Rattle.dr_base.specs.declared.limits.TheConstants.{PAGE}
 use Rattle.dr_disk.specs.State.{Always, DiskState, OnSeen}
 use Rattle.pages.specs.Layouts.{IsPage}
 use Rattle.pages.specs.Snapshots.{IsStill, Snapshot, page_of}
 use Rattle.pages.specs.Tables.{open_table, table_turn}
-use Rattle.pages.specs.Writing.{AreBeside, AreDistinct}
+use Rattle.pages.specs.Writing.{AreBeside, AreDistinct, IsNoneOf}
+use Rattle.book_store.specs.declared.desk.Desk.{Desk}
 use Rattle.book_store.specs.Layout.{book_layout}
 use Rattle.book_store.specs.Rows.{book_names, book_pages, row_in, row_names, shifted}
 use Rattle.book_store.specs.declared.layout.TheConstants.{BOOK_ROWS, ROW_PAGES}
@@ -48,6 +49,20 @@ pub record IsRowPlan (rows row : ℕ) (old numbers fresh places pages : List ℕ
   pub others : (j : ℕ) → j < length fresh → All (λ m. m ≢ slice_index fresh j) (shifted row old)
   pub entries : All (λ n. n < ROW_PAGES) numbers
   pub replanned : IsReplanned row old numbers fresh standing (pieces pages places) next
+
+-- another table to come, and all else as it was
+pub record IsWithBody (old new : Desk) (body : List ℕ) : Type 0 where
+  pub rows : new.rows ≡ old.rows
+  pub second : new.second ≡ old.second
+  pub turn : new.turn ≡ old.turn
+  pub body_is : new.body.items ≡ body
+
+-- each page but for these is as a read gave it
+pub record KeepsOthers (rows : ℕ) (numbers : List ℕ) (start : DiskState) (s : List ℕ) : Type 0 where
+  pub read : List ℕ
+  pub told : start.seen ≡ Some read
+  pub rest : (m : ℕ) → IsPage (book_layout rows) m → IsNoneOf m numbers
+      → page_of (book_layout rows) s m ≡ page_of (book_layout rows) read m
 
 -- the rows, with another content of one
 abbrev pub holding : (ℕ → List (List ℕ)) → ℕ → List (List ℕ) → ℕ → List (List ℕ)

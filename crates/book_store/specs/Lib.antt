@@ -8,3 +8,7 @@ pub mod Marks
 pub mod Kept
 pub mod Reading
 pub mod AtRest
+pub mod Store
+pub mod Staging
+pub mod Committing
+pub mod Held

@@ -4,11 +4,10 @@ use Rattle.std.specs.Str.{bytes_eq}
 use Rattle.dr_base.specs.declared.limits.TheConstants.{PAGE}
 use Rattle.pages.specs.Around.{IsSameOutside}
 use Rattle.pages.specs.Snapshots.{Shot, no_shot, shot, snapshot, unclear}
-use Rattle.record_pages.specs.Pages.{joined}
-use Rattle.record_pages.specs.Tables.{nonzero_from, or_else}
+use Rattle.paged_records.specs.Faults.{record_fault}
 use Rattle.book_store.specs.Judging.{book_fault}
 use Rattle.book_store.specs.Layout.{book_layout}
-use Rattle.book_store.specs.Rows.{book_names, row_in, row_length, row_names}
+use Rattle.book_store.specs.Rows.{book_names, record_table, row_in, row_names}
 use Rattle.book_store.specs.Shown.{BookRow, rows_in, stored_rows}
 use Rattle.book_store.specs.declared.layout.TheConstants.{BOOK_ROWS}
 
@@ -38,10 +37,7 @@ damage_at r (Some at) = Some (record { row = r; at = PAGE + at })
 -- of a row's bytes and its pages: the first fault of its record, or else of the zeros behind it
 unfoldable pub row_damage : (List ℕ → Option ℕ) → ℕ → List ℕ → List (List ℕ) → Option RowDamage
 row_damage fault_at r row pages =
-    if slice_index row 0 == 1
-    then damage_at r (or_else (fault_at (take (row_length row) (joined pages)))
-    (nonzero_from (row_length row) (drop (row_length row) (joined pages))))
-    else None
+    if slice_index row 0 == 1 then damage_at r (record_fault fault_at (record_table row) pages) else None
 
 abbrev pub or_later : Option RowDamage → Option RowDamage → Option RowDamage
 or_later (Some damage) later = Some damage

@@ -46,6 +46,11 @@ row_place r = TABLE_ROW - 1 + TABLE_ROW * r
 abbrev pub row_in : List ℕ → ℕ → List ℕ
 row_in body r = slice_range body (row_place r) (row_place r + TABLE_ROW)
 
+-- with another row
+abbrev pub with_row_in : List ℕ → ℕ → List ℕ → List ℕ
+with_row_in body r row =
+    take (row_place r) body ++ (row ++ drop TABLE_ROW (drop (row_place r) body))
+
 -- a row's numbers as those of pages of the book
 abbrev pub shifted : ℕ → List ℕ → List ℕ
 shifted r numbers = map (λ n. ROW_PAGES * r + n) numbers

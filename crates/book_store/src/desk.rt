@@ -1,9 +1,9 @@
 //! A book's table and its disk: rows are staged, one after the other, and one table is committed.
 //! What each row's record is, and which of its pages change, is the concern of the callers.
 
-ghost use Rattle.std.specs.Prelude.{◌≡◌, ◌≢◌, ◌+◌, ◌-◌, ◌*◌, ◌≤◌, ◌<◌, [], ℕ, true, All, IfOk, List, OnOk, length, replicate, slice_index};
+ghost use Rattle.std.specs.Prelude.{◌≡◌, ◌≢◌, ◌+◌, ◌-◌, ◌*◌, ◌≤◌, ◌<◌, [], ℕ, true, All, IfOk, List, OnOk, length, not, replicate, slice_index, slice_set};
 ghost use Rattle.dr_base.specs.declared.limits.TheConstants.{PAGE};
-ghost use Rattle.dr_disk.specs.State.{Always};
+ghost use Rattle.dr_disk.specs.State.{Always, OnSeen};
 ghost use Rattle.dr_disk.specs.Called.{itself};
 ghost use Rattle.pages.specs.Commits.{TakesPlace};
 ghost use Rattle.pages.specs.Layouts.{IsSound};
@@ -16,9 +16,8 @@ ghost use Rattle.pages.specs.Writing.{AreFree, AreToWrite, Stages};
 ghost use Rattle.dr_disk.specs.declared.call.Call.TheVariants.{Write};
 ghost use Rattle.record_pages.specs.declared.limits.TheConstants.{NUMBER_LIMIT};
 ghost use Rattle.record_pages.specs.Pages.{page_count};
-ghost use Rattle.book_store.specs.Desk.{IsRowPlan, StandsStaged, book_shot, holding};
 ghost use Rattle.book_store.specs.Layout.{book_layout};
-ghost use Rattle.book_store.specs.Rows.{book_names, row_in, row_names, row_text};
+ghost use Rattle.book_store.specs.Rows.{absent_row, book_names, row_in, row_names, row_text, with_row_in};
 ghost use Rattle.book_store.specs.declared.layout.TheConstants.{BOOK_ROWS, BOOK_TABLE, ROW_MOST};
 ghost use Rattle.relay_wire.specs.declared.limits.TheConstants.{NAME_LIMIT};
 
@@ -31,7 +30,7 @@ use std::alloc::{AllocError, Global};
 
 /// The table to come after its gate, which table counts, and its turn.
 #[derive(Drop)]
-pub struct Desk {
+pub(crate) struct Desk {
     pub(crate) rows: u32,
     pub(crate) second: bool,
     pub(crate) turn: u8,
@@ -56,15 +55,18 @@ fn set_turn(body: &mut [u8], turn: u8)
     requires { 1 ≤ length body.old }
     ensures turn { slice_index body.new 0 ≡ turn }
     ensures rows { (r : ℕ) → row_in body.new r ≡ row_in body.old r }
+    ensures whole { body.new ≡ slice_set body.old 0 turn }
     ensures long { length body.new ≡ length body.old }
 {
     body[0] = turn;
 }
 
 impl Desk {
+    ghost use Rattle.book_store.specs.Desk.{IsRowPlan, IsWithBody, KeepsOthers, StandsStaged, book_shot, holding};
+
     /// For a disk on which no table is open: all rows are absent, and table 0 comes first, with
     /// turn 1.
-    pub fn new(alloc: Global, rows: u32) -> Result<Desk, AllocError>
+    pub(crate) fn new(alloc: Global, rows: u32) -> Result<Desk, AllocError>
         requires { rows ≤ BOOK_ROWS }
         ensures rows { IfOk result (λ desk. desk.rows ≡ rows) }
         ensures second { IfOk result (λ desk. desk.second ≡ true) }
@@ -81,7 +83,7 @@ impl Desk {
 
     /// Stages a row: writes pages of a text to these numbers of the book, which no open table
     /// names, and puts the row into the table to come.
-    pub fn stage<D: Disk>(
+    pub(crate) fn stage<D: Disk>(
         &mut self,
         disk: &mut D,
         row: usize,
@@ -110,38 +112,33 @@ impl Desk {
             fresh.now places.now pages.now was (held row) next
             → OnOk result (StandsStaged self.new.rows self.new.second self.new.turn
             self.new.body.items was (holding held row next) (D.state disk.new)) }
-        ensures this { OnOk result (row_in self.new.body.items row
-            ≡ row_text name.now len numbers.now) }
-        ensures others { (r : ℕ) → r ≢ row
-            → row_in self.new.body.items r ≡ row_in self.old.body.items r }
-        ensures rows { self.new.rows ≡ self.old.rows }
-        ensures second { self.new.second ≡ self.old.second }
-        ensures turn { self.new.turn ≡ self.old.turn }
+        ensures rest { OnOk result (OnSeen (KeepsOthers self.old.rows fresh.now
+            (D.state disk.old)) (D.state disk.new)) }
+        ensures next { IsWithBody self.old self.new
+            (with_row_in self.old.body.items row (row_text name.now len numbers.now)) }
     {
+        put_row(&mut self.body, row, name, len, numbers);
         match write_pages::<BookTable, D>(disk, book_layout(self.rows), fresh, places, pages) {
             Ok(()) => {}
             Err(call) => return Err(call),
         }
-        put_row(&mut self.body, row, name, len, numbers);
         Ok(())
     }
 
     /// Stages that a row is absent. No call on the disk is made.
-    pub fn stage_empty(&mut self, row: usize)
+    pub(crate) fn stage_empty(&mut self, row: usize)
         requires { row < BOOK_ROWS }
+        ensures next { IsWithBody self.old self.new (with_row_in self.old.body.items row absent_row) }
         ensures others { (r : ℕ) → r ≢ row
             → row_in self.new.body.items r ≡ row_in self.old.body.items r }
         ensures none { row_names (row_in self.new.body.items row) ≡ [] }
-        ensures rows { self.new.rows ≡ self.old.rows }
-        ensures second { self.new.second ≡ self.old.second }
-        ensures turn { self.new.turn ≡ self.old.turn }
     {
         blank_row(&mut self.body, row);
     }
 
     /// Commits the table to come: all rows that were staged take the place of what they were, or
     /// none does.
-    pub fn commit<D: Disk>(&mut self, disk: &mut D) -> Result<(), Call>
+    pub(crate) fn commit<D: Disk>(&mut self, disk: &mut D) -> Result<(), Call>
         requires sound { IsSound (book_layout self.old.rows) (D.state disk.old).size }
         ensures takes_place { (was : Snapshot) (held : ℕ → List (List ℕ))
             → StandsStaged self.old.rows self.old.second self.old.turn self.old.body.items was held
@@ -152,7 +149,10 @@ impl Desk {
             (D.state disk.old) (D.state disk.new) result }
         ensures kind { FailsBy itself (put_call 0) (D.state disk.old) (D.state disk.new) result }
         ensures rows { self.new.rows ≡ self.old.rows }
-        ensures same { (r : ℕ) → row_in self.new.body.items r ≡ row_in self.old.body.items r }
+        ensures second { self.new.second ≡ not self.old.second }
+        ensures turn { self.new.turn ≡ turn_after self.old.turn }
+        ensures body { self.new.body.items
+            ≡ slice_set self.old.body.items 0 (turn_after self.old.turn) }
     {
         let was = self.second;
         let turn = next(self.turn);
@@ -167,7 +167,12 @@ impl Desk {
 
     /// Closes the table that doesn't count, and wipes it and these pages, which it alone names. It
     /// is called after a commit.
-    pub fn retire<D: Disk>(&self, disk: &mut D, dropped: &[u32], zeros: &[u8]) -> Result<(), Call>
+    pub(crate) fn retire<D: Disk>(
+        &self,
+        disk: &mut D,
+        dropped: &[u32],
+        zeros: &[u8],
+    ) -> Result<(), Call>
         requires free { AreFree book_names (book_layout self.now.rows) dropped.now
             (D.state disk.old) }
         requires newest { Always (IsNewest (book_layout self.now.rows) self.now.second)

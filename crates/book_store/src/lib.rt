@@ -2,20 +2,23 @@
 //! table that names the pages of all rows. Several rows change under one commit.
 #![tactic(auto)]
 
-pub use desk::Desk;
+pub use errors::StoreFault;
 pub use judging::book_fault;
-pub use laws::{
-    absent_rows_are_staged, all_or_none, laid_tables_are_faultless, rows_are_as_staged,
-};
+pub use laws::{all_or_none, laid_tables_are_faultless, resting_books, stay_as_they_were};
 pub use layout::{
     BOOK_ROWS, BOOK_SIZE, BOOK_START, BOOK_TABLE, RECORD_PLACE, ROW_MOST, ROW_PAGES, ROW_SIZE,
     TABLE_ROW, limits_in_numbers,
 };
+pub use store::BookStore;
 
 mod desk;
+mod errors;
+mod gathering;
+mod held;
 mod judging;
 mod laws;
 mod layout;
 mod record;
 mod rows;
+mod store;
 mod table;

@@ -3,7 +3,7 @@
 ghost use Rattle.std.specs.Prelude.{◌≡◌, ◌≢◌, ◌+◌, ◌≤◌, ◌<◌, ℕ, All, length, take};
 ghost use Rattle.record_pages.specs.declared.limits.TheConstants.{NUMBER_LIMIT};
 ghost use Rattle.relay_wire.specs.declared.limits.TheConstants.{NAME_LIMIT};
-ghost use Rattle.book_store.specs.Rows.{absent_row, row_head, row_in, row_place, row_text};
+ghost use Rattle.book_store.specs.Rows.{absent_row, row_head, row_in, row_place, row_text, with_row_in};
 ghost use Rattle.book_store.specs.declared.layout.TheConstants.{RECORD_PLACE, ROW_MOST, TABLE_ROW};
 
 use crate::layout::{RECORD_PLACE, TABLE_ROW};
@@ -52,6 +52,7 @@ pub(crate) fn put_row(body: &mut [u8], row: usize, name: &[u8], len: u32, number
     requires named { length name.now ≤ NAME_LIMIT }
     requires few { length numbers.now ≤ ROW_MOST }
     requires small { All (λ n. n < NUMBER_LIMIT) numbers.now }
+    ensures whole { body.new ≡ with_row_in body.old row (row_text name.now len numbers.now) }
     ensures this { row_in body.new row ≡ row_text name.now len numbers.now }
     ensures others { (r : ℕ) → r ≢ row → row_in body.new r ≡ row_in body.old r }
     ensures long { length body.new ≡ length body.old }
@@ -71,6 +72,7 @@ fn lay_out_absent(out: &mut [u8])
 /// Makes a row absent in its place of a table after its gate.
 pub(crate) fn blank_row(body: &mut [u8], row: usize)
     requires room { row_place row + TABLE_ROW ≤ length body.old }
+    ensures whole { body.new ≡ with_row_in body.old row absent_row }
     ensures this { row_in body.new row ≡ absent_row }
     ensures others { (r : ℕ) → r ≢ row → row_in body.new r ≡ row_in body.old r }
     ensures long { length body.new ≡ length body.old }

@@ -39,30 +39,28 @@ shift-requires-clause-room c =
     ∙ free_is c.row_bounds.result c.args.kept.now.numbers.items c.replan.new.draft.free.items
     c.row_bounds.ensures c.replan.ensures.free)
     c.replan.ensures.places (omega (arith, c.len-count.ensures, c.replan.new.draft.plan.places.ok.0)) in
-    omega (arith, few, c.requires.fresh)
+    omega (arith, few, c.requires.rooms.1)
 
 pub returns-clause-len : goal.returns-clause-len
 returns-clause-len c = c.replan.ensures.len
 
-pub returns-clause-text : goal.returns-clause-text
-returns-clause-text c = c.replan.ensures.text
-
-pub returns-clause-numbers : goal.returns-clause-numbers
-returns-clause-numbers c =
-    c.replan.ensures.numbers
-    ∙ ap (numbered (pages_in (text_of c.args.kept.now)) c.args.kept.now.numbers.items
-    (pages_in (take c.args.len c.args.text.now.items)))
-    (free_is c.row_bounds.result c.args.kept.now.numbers.items
-    (free_in c.row_bounds.result c.args.kept.now.numbers.items) c.row_bounds.ensures refl)
-
-pub returns-clause-record : goal.returns-clause-record
-returns-clause-record c = record {
-  few = subst (λ (b : Bounds). c.replan.new.kept.len ≤ PAGE * b.most) c.row_bounds.ensures c.replan.ensures.few;
-  long = subst (λ (b : Bounds). HasRecordMemory b c.replan.new.kept.bytes) c.row_bounds.ensures c.replan.ensures.long;
-  entries = subst (λ (b : Bounds). entry_fault b.least b.count [] 6 c.replan.new.kept.numbers.items ≡ None)
-      c.row_bounds.ensures c.replan.ensures.entries;
-  numbers = subst (λ (b : Bounds). b.most ≤ vec_capacity c.replan.new.kept.numbers) c.row_bounds.ensures
-      c.replan.ensures.number_room;
+pub returns-clause-replaced : goal.returns-clause-replaced
+returns-clause-replaced c = record {
+  record_is = record {
+    few = subst (λ (b : Bounds). c.replan.new.kept.len ≤ PAGE * b.most) c.row_bounds.ensures c.replan.ensures.few;
+    long = subst (λ (b : Bounds). HasRecordMemory b c.replan.new.kept.bytes) c.row_bounds.ensures c.replan.ensures.long;
+    entries = subst (λ (b : Bounds). entry_fault b.least b.count [] 6 c.replan.new.kept.numbers.items ≡ None)
+        c.row_bounds.ensures c.replan.ensures.entries;
+    numbers = subst (λ (b : Bounds). b.most ≤ vec_capacity c.replan.new.kept.numbers) c.row_bounds.ensures
+        c.replan.ensures.number_room;
+  };
+  text_is = c.replan.ensures.text;
+  numbers = c.replan.ensures.numbers
+      ∙ ap (numbered (pages_in (text_of c.args.kept.now)) c.args.kept.now.numbers.items
+      (pages_in (take c.args.len c.args.text.now.items)))
+      (free_is c.row_bounds.result c.args.kept.now.numbers.items
+      (free_in c.row_bounds.result c.args.kept.now.numbers.items) c.row_bounds.ensures refl);
+  gone_is = c.replan.ensures.dropped;
 }
 
 pub returns-clause-room : goal.returns-clause-room
@@ -83,12 +81,8 @@ returns-clause-fresh c =
     c.replan.ensures.places (omega (arith, c.len-count.ensures, c.replan.new.draft.plan.places.ok.0))
     c.shift.new.out.items c.shift.ensures.shifted
 
-pub returns-clause-dropped : goal.returns-clause-dropped
-returns-clause-dropped c = c.replan.ensures.dropped
-
-pub returns-clause-plan : goal.returns-clause-plan
-returns-clause-plan c =
-    subst (λ (b : Bounds). HasPlanRoom b c.replan.new.draft) c.row_bounds.ensures c.replan.ensures.room
-
-pub returns-clause-fresh_room : goal.returns-clause-fresh_room
-returns-clause-fresh_room c = omega (arith, c.shift.ensures.room, c.requires.fresh)
+pub returns-clause-rooms : goal.returns-clause-rooms
+returns-clause-rooms c = (
+  subst (λ (b : Bounds). HasPlanRoom b c.replan.new.draft) c.row_bounds.ensures c.replan.ensures.room,
+  omega (arith, c.shift.ensures.room, c.requires.rooms.1),
+)

@@ -1,0 +1,273 @@
+-- A store of which a row is staged holds what every store does.
+use Rattle.std.proofs.Common.{◌≡◌, ◌≢◌, ⊎_elim, ℕ, ◌≤◌, ◌<◌, true, false, List, [], Option, None, Some, get_or, length, take, refl, sym, ◌∙◌, ap, subst, arith, length-take-le}
+use Rattle.std.specs.Prelude.{slice_index_or}
+use Rattle.std.proofs.lemmas.Bool.{cases_eq}
+use Rattle.std.proofs.lemmas.List.{length-set}
+use Rattle.std.proofs.lemmas.List.Elements.{All-nil}
+use Rattle.record_pages.specs.Pages.{pages_in}
+use Rattle.record_pages.specs.Plans.{changed, dropped, numbered}
+use Rattle.record_pages.specs.Tables.{entry_fault}
+use Rattle.record_pages.proofs.Filled.{pages_in_long}
+use Rattle.record_pages.proofs.FreeEnough.{free_enough}
+use Rattle.record_pages.proofs.LawfulEntries.{AreEntries, AreNone, IsEntry, entries_lawful, lawful_entries}
+use Rattle.record_pages.proofs.PlanEntries.{ArePlanned, plan_entries}
+use Rattle.record_pages.proofs.Renumbered.{changed_few, numbered_long, numbered_short}
+use Rattle.paged_records.specs.Bounded.{Fits}
+use Rattle.relay_wire.specs.Names.{is_name}
+use Rattle.book_store.proofs.Books.Laying.{marked}
+use Rattle.book_store.proofs.Books.Listed.{mark_at, marks_set}
+use Rattle.book_store.proofs.Books.Marking.{at_place, body_with, by_place, elsewhere, marks_with}
+use Rattle.book_store.specs.AtRest.{row_mark, row_marks, row_pages}
+use Rattle.book_store.specs.Kept.{free_of_row, row_bounds}
+use Rattle.book_store.specs.Marks.{AreMarks, IsRowMark, RowMark, book_body, mark_text}
+use Rattle.book_store.specs.Rows.{with_row_in}
+use Rattle.book_store.specs.Shown.{BookRow}
+use Rattle.book_store.specs.Store.{BookStore, IsLawfulStore, IsNewName, body_of, drops_at, numbers_at, numbers_of, pages_at, with_row, with_staged, without_row}
+use Rattle.book_store.specs.declared.layout.TheConstants.{BOOK_ROWS, ROW_MOST, ROW_PAGES}
+
+-- the row that a mark is of
+record IsMarkOf (row : Option BookRow) (numbers : List ℕ) (mark : RowMark) : Type 0 where
+  pub shown : BookRow
+  pub is : row ≡ Some shown
+  pub same : record { name = shown.name; len = length shown.text; numbers = numbers } ≡ mark
+
+mark_of : (row : Option BookRow) (numbers : List ℕ) (mark : RowMark) → row_mark row numbers ≡ Some mark
+    → IsMarkOf row numbers mark
+mark_of None numbers mark is = absurd (let e : None ≡ Some mark = is in cc)
+mark_of (Some shown) numbers mark is = record {
+  shown = shown;
+  is = refl;
+  same = let e : Some (record { name = shown.name; len = length shown.text; numbers = numbers }) ≡ Some mark = is in cc;
+}
+
+module _ (store : BookStore) (lawful : IsLawfulStore store) (row : ℕ) (here : row < store.rows) where
+  abbrev marks : List (Option RowMark)
+  marks = row_marks store.held store.mark.numbers
+
+  inside : row < BOOK_ROWS
+  inside = omega (arith, here, lawful.few)
+
+  each_number : length store.mark.numbers ≡ length store.held
+  each_number = lawful.numbers_all ∙ sym lawful.held_all
+
+  module _ (new : Option BookRow) (ns gone : List ℕ)
+      (is : (shown : BookRow) → new ≡ Some shown
+      → IsRowMark (record { name = shown.name; len = length shown.text; numbers = ns }))
+      (named : (shown : BookRow) → new ≡ Some shown → IsNewName store row shown.name)
+      (drops : entry_fault 0 ROW_PAGES [] 6 gone ≡ None) (apart : AreNone gone (numbers_of new ns)) where
+    abbrev next : BookStore
+    next = with_staged store row new ns gone
+
+    new_lawful : (mark : RowMark) → row_mark new ns ≡ Some mark → IsRowMark mark × (row < store.rows)
+    new_lawful mark same =
+        let of = mark_of new ns mark same in
+        (subst IsRowMark of.same (is of.shown of.is), here)
+
+    new_differs : (r : ℕ) (mark other : RowMark) → r ≢ row → row_mark new ns ≡ Some mark
+        → get_or marks r None ≡ Some other → other.name ≢ mark.name
+    new_differs r mark other away same there =
+        let of = mark_of new ns mark same in
+        let beside = mark_of (get_or store.held r None) (get_or store.mark.numbers r []) other
+        (sym (mark_at store.held store.mark.numbers r) ∙ there) in
+        λ e. named of.shown of.is r beside.shown away beside.is
+        (ap (λ m. m.name) beside.same ∙ e ∙ sym (ap (λ m. m.name) of.same))
+
+    next_marks : AreMarks store.rows (row_marks next.held next.mark.numbers)
+    next_marks = subst (AreMarks store.rows) (sym (marks_set store.held store.mark.numbers row new ns each_number))
+        (marks_with store.rows marks lawful.marks row inside (row_mark new ns) new_lawful new_differs)
+
+    drops_fit : row < length store.drops
+    drops_fit = omega (arith, inside, lawful.drops_all)
+
+    held_fit : row < length store.held
+    held_fit = omega (arith, inside, lawful.held_all)
+
+    numbers_fit : row < length store.mark.numbers
+    numbers_fit = omega (arith, inside, lawful.numbers_all)
+
+    pub own_here : (r : ℕ) → r ≡ row → numbers_at next.mark next.held r ≡ numbers_of new ns
+    own_here r same = ap (λ o. numbers_of o (get_or next.mark.numbers r [])) (at_place store.held row r new None held_fit same)
+        ∙ ap (numbers_of new) (at_place store.mark.numbers row r ns [] numbers_fit same)
+
+    pub own_there : (r : ℕ) → r ≢ row → numbers_at next.mark next.held r ≡ numbers_at store.mark store.held r
+    own_there r other = ap (λ o. numbers_of o (get_or next.mark.numbers r [])) (elsewhere store.held row r new None other)
+        ∙ ap (numbers_of (get_or store.held r None)) (elsewhere store.mark.numbers row r ns [] other)
+
+    pub drops_here : (r : ℕ) → r ≡ row → drops_at next r ≡ gone
+    drops_here r same = at_place store.drops row r gone [] drops_fit same
+
+    pub drops_there : (r : ℕ) → r ≢ row → drops_at next r ≡ drops_at store r
+    drops_there r other = elsewhere store.drops row r gone [] other
+
+    next_apart : (r : ℕ) → AreNone (drops_at next r) (numbers_at next.mark next.held r)
+    next_apart r = ⊎_elim
+        (λ same. subst (λ l. AreNone l (numbers_at next.mark next.held r)) (sym (drops_here r same))
+        (subst (AreNone gone) (sym (own_here r same)) apart))
+        (λ other. subst (λ l. AreNone l (numbers_at next.mark next.held r)) (sym (drops_there r other))
+        (subst (AreNone (drops_at store r)) (sym (own_there r other)) (lawful.apart r)))
+        (cases_eq r row)
+
+    staged_fit : row < length store.staged
+    staged_fit = omega (arith, inside, lawful.staged_all)
+
+    pub none_staged : (r : ℕ) → get_or next.staged r true ≡ false → r ≢ row
+    none_staged r not_so same = absurd (let e : true ≡ false = sym (at_place store.staged row r true true staged_fit same) ∙ not_so in cc)
+
+    pub still_unstaged : (r : ℕ) → get_or next.staged r true ≡ false → get_or store.staged r true ≡ false
+    still_unstaged r not_so = sym (elsewhere store.staged row r true true (none_staged r not_so)) ∙ not_so
+
+    pub next_lawful : IsLawfulStore next
+    next_lawful = record {
+      few = lawful.few;
+      high = lawful.high;
+      held_all = length-set store.held row new ∙ lawful.held_all;
+      numbers_all = length-set store.mark.numbers row ns ∙ lawful.numbers_all;
+      staged_all = length-set store.staged row true ∙ lawful.staged_all;
+      drops_all = length-set store.drops row gone ∙ lawful.drops_all;
+      marks = next_marks;
+      none = λ r not_so. drops_there r (none_staged r not_so) ∙ lawful.none r (still_unstaged r not_so);
+      drops = by_place (λ r l. entry_fault 0 ROW_PAGES [] 6 l ≡ None) store.drops row gone [] drops_fit drops
+          (λ r other. lawful.drops r);
+      apart = next_apart;
+    }
+
+    pub next_body : with_row_in (body_of store) row (mark_text (row_mark new ns)) ≡ body_of next
+    next_body = body_with store.rows marks lawful.marks row inside store.mark.turn (row_mark new ns)
+        ∙ ap (book_body store.mark.turn) (sym (marks_set store.held store.mark.numbers row new ns each_number))
+
+  -- ---- its own pages
+
+  abbrev pub own : List ℕ
+  own = numbers_at store.mark store.held row
+
+  abbrev pub olds : List (List ℕ)
+  olds = pages_at store.held row
+
+  pub record HasPages (r : Option BookRow) : Type 0 where
+    pub entries : AreEntries 0 ROW_PAGES (numbers_of r (get_or store.mark.numbers row []))
+    pub each : length (numbers_of r (get_or store.mark.numbers row [])) ≡ length (row_pages r)
+    pub few : length (numbers_of r (get_or store.mark.numbers row [])) ≤ ROW_MOST
+
+  pages_of_row : (r : Option BookRow) → get_or store.held row None ≡ r → HasPages r
+  pages_of_row None is = record {
+    entries = record { within = All-nil (IsEntry 0 ROW_PAGES); once = tt };
+    each = refl;
+    few = omega arith;
+  }
+  pages_of_row (Some shown) is =
+      let mark = lawful.marks.lawful row _ (marked store.rows store.mark.turn store.held store.mark.numbers lawful.marks row shown is) in
+      record {
+        entries = entries_lawful 0 ROW_PAGES (get_or store.mark.numbers row []) mark.entries;
+        each = mark.each ∙ sym (pages_in_long shown.text);
+        few = omega (arith, mark.each, mark.few);
+      }
+
+  pub has_pages : HasPages (get_or store.held row None)
+  has_pages = pages_of_row (get_or store.held row None) refl
+
+  -- ---- a text in their place
+
+  module _ (text : List ℕ) (fits : Fits row_bounds text) where
+    abbrev pub fresh : List ℕ
+    fresh = take (length (changed olds (pages_in text))) (free_of_row own)
+
+    enough : length (changed olds (pages_in text)) ≤ length (free_of_row own)
+    unfolding free_of_row
+    enough = omega (arith, fits, has_pages.few, free_enough 0 ROW_PAGES own, changed_few olds (pages_in text), pages_in_long text)
+
+    pub plan : ArePlanned 0 ROW_PAGES olds own (pages_in text) fresh
+    unfolding free_of_row
+    plan = plan_entries 0 ROW_PAGES olds own (pages_in text) has_pages.entries has_pages.each enough
+
+    pub fresh_count : length fresh ≡ length (changed olds (pages_in text))
+    fresh_count = length-take-le (length (changed olds (pages_in text))) (free_of_row own) enough
+
+    abbrev pub renumbered : List ℕ
+    renumbered = numbered olds own (pages_in text) (free_of_row own)
+
+    pub short : renumbered ≡ numbered olds own (pages_in text) fresh
+    short = numbered_short olds own (pages_in text) (free_of_row own)
+
+    abbrev pub gone : List ℕ
+    gone = dropped olds own (pages_in text)
+
+    module _ (name : List ℕ) (lawful_name : is_name name ≡ true) (new_name : IsNewName store row name) where
+      abbrev shown : BookRow
+      shown = record { name = name; text = text }
+
+      row_marked : IsRowMark (record { name = name; len = length text; numbers = renumbered })
+      row_marked = record {
+        named = lawful_name;
+        few = fits;
+        each = numbered_long olds own (pages_in text) (free_of_row own) has_pages.each ∙ pages_in_long text;
+        entries = ap (entry_fault 0 ROW_PAGES [] 6) short ∙ lawful_entries 0 ROW_PAGES (numbered olds own (pages_in text) fresh) plan.named_are;
+      }
+
+      is_marked : (row : BookRow) → Some shown ≡ Some row
+          → IsRowMark (record { name = row.name; len = length row.text; numbers = renumbered })
+      is_marked row same = subst (λ (r : BookRow). IsRowMark (record { name = r.name; len = length r.text; numbers = renumbered }))
+          (let e : shown ≡ row = cc in e) row_marked
+
+      is_new : (other : BookRow) → Some shown ≡ Some other → IsNewName store row other.name
+      is_new other same = subst (λ (r : BookRow). IsNewName store row r.name) (let e : shown ≡ other = cc in e) new_name
+
+      drops_lawful : entry_fault 0 ROW_PAGES [] 6 gone ≡ None
+      drops_lawful = lawful_entries 0 ROW_PAGES gone plan.dropped_are
+
+      drops_apart : AreNone gone renumbered
+      drops_apart = subst (AreNone gone) (sym short) plan.gone
+
+      pub row_own : (r : ℕ) → r ≡ row → numbers_at (with_row store row name text).mark (with_row store row name text).held r ≡ renumbered
+      row_own = own_here (Some shown) renumbered gone is_marked is_new drops_lawful drops_apart
+
+      pub row_there : (r : ℕ) → r ≢ row → numbers_at (with_row store row name text).mark (with_row store row name text).held r
+          ≡ numbers_at store.mark store.held r
+      row_there = own_there (Some shown) renumbered gone is_marked is_new drops_lawful drops_apart
+
+      pub row_gone : (r : ℕ) → r ≡ row → drops_at (with_row store row name text) r ≡ gone
+      row_gone = drops_here (Some shown) renumbered gone is_marked is_new drops_lawful drops_apart
+
+      pub row_gone_there : (r : ℕ) → r ≢ row → drops_at (with_row store row name text) r ≡ drops_at store r
+      row_gone_there = drops_there (Some shown) renumbered gone is_marked is_new drops_lawful drops_apart
+
+      pub row_lawful : IsLawfulStore (with_row store row name text)
+      row_lawful = next_lawful (Some shown) renumbered gone is_marked is_new drops_lawful drops_apart
+
+      pub row_body : with_row_in (body_of store) row (mark_text (row_mark (Some shown) renumbered)) ≡ body_of (with_row store row name text)
+      row_body = next_body (Some shown) renumbered gone is_marked is_new drops_lawful drops_apart
+
+  -- ---- no row in its place
+
+  none_marked : (shown : BookRow) → None ≡ Some shown → IsRowMark (record { name = shown.name; len = length shown.text; numbers = [] })
+  none_marked shown is = absurd (let e : None ≡ Some shown = is in cc)
+
+  none_new : (shown : BookRow) → None ≡ Some shown → IsNewName store row shown.name
+  none_new shown is = absurd (let e : None ≡ Some shown = is in cc)
+
+  none_apart : AreNone own []
+  none_apart k d lt = All-nil (λ x. x ≢ slice_index_or own k d)
+
+  own_lawful : entry_fault 0 ROW_PAGES [] 6 own ≡ None
+  own_lawful = lawful_entries 0 ROW_PAGES own has_pages.entries
+
+  pub empty_own : (r : ℕ) → r ≡ row → numbers_at (without_row store row).mark (without_row store row).held r ≡ []
+  empty_own = own_here None [] own none_marked none_new own_lawful none_apart
+
+  pub empty_there : (r : ℕ) → r ≢ row → numbers_at (without_row store row).mark (without_row store row).held r
+      ≡ numbers_at store.mark store.held r
+  empty_there = own_there None [] own none_marked none_new own_lawful none_apart
+
+  pub empty_gone : (r : ℕ) → r ≡ row → drops_at (without_row store row) r ≡ own
+  empty_gone = drops_here None [] own none_marked none_new own_lawful none_apart
+
+  pub empty_gone_there : (r : ℕ) → r ≢ row → drops_at (without_row store row) r ≡ drops_at store r
+  empty_gone_there = drops_there None [] own none_marked none_new own_lawful none_apart
+
+  pub empty_unstaged : (r : ℕ) → get_or (without_row store row).staged r true ≡ false → r ≢ row
+  empty_unstaged = none_staged None [] own none_marked none_new own_lawful none_apart
+
+  pub empty_lawful : IsLawfulStore (without_row store row)
+  empty_lawful = next_lawful None [] own none_marked none_new own_lawful none_apart
+
+  pub empty_body : with_row_in (body_of store) row (mark_text None) ≡ body_of (without_row store row)
+  empty_body = next_body None [] own none_marked none_new own_lawful none_apart
