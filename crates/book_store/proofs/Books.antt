@@ -19,3 +19,4 @@ pub mod RetireCall
 pub mod EmptyStaged
 pub mod Ascii
 pub mod Resting
+pub mod Empty

@@ -9,7 +9,7 @@ use Rattle.book_store.specs.AtRest.{BookMark, row_marks, row_pages}
 use Rattle.book_store.specs.Kept.{free_of_row}
 use Rattle.book_store.specs.Marks.{AreMarks, book_body}
 use Rattle.book_store.specs.Rows.{names_by}
-use Rattle.book_store.specs.Shown.{BookRow}
+use Rattle.book_store.specs.Shown.{BookRow, absent}
 use Rattle.book_store.specs.declared.layout.TheConstants.{BOOK_ROWS, ROW_PAGES}
 
 pub record BookStore : Type 0 where
@@ -95,6 +95,19 @@ retired store = record {
   staged = replicate BOOK_ROWS false;
   drops = replicate BOOK_ROWS [];
   replaced = store.replaced;
+}
+
+-- ---- a store of zeros
+
+-- all rows are absent, no table is open, and table 0 comes next
+abbrev pub empty_store : ℕ → BookStore
+empty_store rows = record {
+  rows = rows;
+  mark = record { second = true; turn = 0; numbers = replicate BOOK_ROWS [] };
+  held = absent BOOK_ROWS;
+  staged = replicate BOOK_ROWS false;
+  drops = replicate BOOK_ROWS [];
+  replaced = false;
 }
 
 -- ---- what holds of every store

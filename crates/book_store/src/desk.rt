@@ -30,7 +30,7 @@ use std::alloc::{AllocError, Global};
 
 /// The table to come after its gate, which table counts, and its turn.
 #[derive(Drop)]
-pub(crate) struct Desk {
+pub struct Desk {
     pub(crate) rows: u32,
     pub(crate) second: bool,
     pub(crate) turn: u8,
@@ -66,7 +66,7 @@ impl Desk {
 
     /// For a disk on which no table is open: all rows are absent, and table 0 comes first, with
     /// turn 1.
-    pub(crate) fn new(alloc: Global, rows: u32) -> Result<Desk, AllocError>
+    pub fn new(alloc: Global, rows: u32) -> Result<Desk, AllocError>
         requires { rows ≤ BOOK_ROWS }
         ensures rows { IfOk result (λ desk. desk.rows ≡ rows) }
         ensures second { IfOk result (λ desk. desk.second ≡ true) }
@@ -83,7 +83,7 @@ impl Desk {
 
     /// Stages a row: writes pages of a text to these numbers of the book, which no open table
     /// names, and puts the row into the table to come.
-    pub(crate) fn stage<D: Disk>(
+    pub fn stage<D: Disk>(
         &mut self,
         disk: &mut D,
         row: usize,
@@ -126,7 +126,7 @@ impl Desk {
     }
 
     /// Stages that a row is absent. No call on the disk is made.
-    pub(crate) fn stage_empty(&mut self, row: usize)
+    pub fn stage_empty(&mut self, row: usize)
         requires { row < BOOK_ROWS }
         ensures next { IsWithBody self.old self.new (with_row_in self.old.body.items row absent_row) }
         ensures others { (r : ℕ) → r ≢ row
@@ -138,7 +138,7 @@ impl Desk {
 
     /// Commits the table to come: all rows that were staged take the place of what they were, or
     /// none does.
-    pub(crate) fn commit<D: Disk>(&mut self, disk: &mut D) -> Result<(), Call>
+    pub fn commit<D: Disk>(&mut self, disk: &mut D) -> Result<(), Call>
         requires sound { IsSound (book_layout self.old.rows) (D.state disk.old).size }
         ensures takes_place { (was : Snapshot) (held : ℕ → List (List ℕ))
             → StandsStaged self.old.rows self.old.second self.old.turn self.old.body.items was held
@@ -167,12 +167,7 @@ impl Desk {
 
     /// Closes the table that doesn't count, and wipes it and these pages, which it alone names. It
     /// is called after a commit.
-    pub(crate) fn retire<D: Disk>(
-        &self,
-        disk: &mut D,
-        dropped: &[u32],
-        zeros: &[u8],
-    ) -> Result<(), Call>
+    pub fn retire<D: Disk>(&self, disk: &mut D, dropped: &[u32], zeros: &[u8]) -> Result<(), Call>
         requires free { AreFree book_names (book_layout self.now.rows) dropped.now
             (D.state disk.old) }
         requires newest { Always (IsNewest (book_layout self.now.rows) self.now.second)

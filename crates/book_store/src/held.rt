@@ -1,6 +1,6 @@
 //! A row in memory: its name, its record, and the pages that it dropped when it was staged.
 
-ghost use Rattle.std.specs.Prelude.{◌≡◌, ◌<◌, [], ℕ, true, None, Some, List, OnOk, length, take, vec_capacity};
+ghost use Rattle.std.specs.Prelude.{◌≡◌, ◌<◌, [], ℕ, true, All, None, Some, List, IfOk, OnOk, length, take, vec_capacity};
 ghost use Rattle.dr_disk.specs.declared.call.Call.TheVariants.{Write};
 ghost use Rattle.dr_disk.specs.State.{OnSeen};
 ghost use Rattle.pages.specs.Layouts.{IsSound};
@@ -13,13 +13,15 @@ ghost use Rattle.book_store.specs.Kept.{AreOwnNumbers, HasStagingRoom, IsReplace
 ghost use Rattle.book_store.specs.Layout.{book_layout};
 ghost use Rattle.book_store.specs.Rows.{book_names, row_in, row_names, row_text, with_row_in};
 ghost use Rattle.relay_wire.specs.Names.{is_name};
-ghost use Rattle.book_store.specs.declared.layout.TheConstants.{ROW_MOST};
+ghost use Rattle.book_store.specs.declared.layout.TheConstants.{BOOK_ROWS, ROW_MOST};
 
 use crate::desk::Desk;
-use crate::record::stage_record;
+use crate::layout::{BOOK_ROWS, ROW_MOST};
+use crate::record::{row_bounds, stage_record};
 use dr_disk::{Call, Disk};
 use paged_records::{Draft, Kept};
 use relay_wire::Name;
+use std::alloc::{AllocError, Global};
 use std::mem::swap;
 
 /// A row's name, if it is present, its record, which is empty if it isn't, and the numbers of the
@@ -35,8 +37,31 @@ pub(crate) struct HeldRow {
     ghost room: { ROW_MOST < vec_capacity dropped },
 }
 
+/// All rows of a book, absent, with room for their records.
+pub(crate) fn absent_rows(alloc: Global) -> Result<Vec<HeldRow>, AllocError>
+    ensures long { IfOk result (λ rows. length rows.items ≡ BOOK_ROWS) }
+    ensures absent { IfOk result (λ rows. All (λ row. row.name ≡ None) rows.items) }
+{
+    let mut rows = Vec::with_capacity(alloc, BOOK_ROWS as usize)?;
+    'rows: for i in 0..BOOK_ROWS {
+        rows.push(HeldRow::absent(alloc)?)?;
+    }
+    Ok(rows)
+}
+
 impl HeldRow {
     ghost use Rattle.book_store.specs.Desk.{IsWithBody, KeepsOthers, StandsStaged, holding};
+
+    /// An absent row, with room for a record.
+    fn absent(alloc: Global) -> Result<HeldRow, AllocError>
+        ensures { IfOk result (λ row. row.name ≡ None) }
+    {
+        Ok(HeldRow {
+            name: None,
+            kept: Kept::none(alloc, row_bounds())?,
+            dropped: Vec::with_capacity(alloc, ROW_MOST as usize + 1)?,
+        })
+    }
 
     /// Stages a row under a name with a text.
     pub(crate) fn stage<D: Disk>(

@@ -2,6 +2,7 @@
 //! table that names the pages of all rows. Several rows change under one commit.
 #![tactic(auto)]
 
+pub use desk::Desk;
 pub use errors::StoreFault;
 pub use judging::book_fault;
 pub use laws::{all_or_none, laid_tables_are_faultless, resting_books, stay_as_they_were};

@@ -9,10 +9,13 @@ ghost use Rattle.book_store.specs.declared.layout.TheConstants.{BOOK_ROWS, BOOK_
 use crate::desk::Desk;
 use crate::errors::StoreFault;
 use crate::gathering::gather;
-use crate::held::HeldRow;
+use crate::held::{HeldRow, absent_rows};
+use crate::layout::{BOOK_ROWS, BOOK_TABLE, ROW_MOST, ROW_PAGES};
+use crate::record::row_bounds;
 use dr_disk::Disk;
-use paged_records::Draft;
+use paged_records::{Draft, take_draft};
 use relay_wire::Name;
+use std::alloc::{AllocError, Global};
 use std::marker::Model;
 
 /// A book's store, in memory that was taken at opening. A contract sees its rows, where they lie, and
@@ -61,7 +64,7 @@ fn words(name: &Name) -> &str
 }
 
 impl BookStore {
-    ghost use Rattle.std.specs.Prelude.{◌≡◌, ◌<◌, false, Some, List, Option, IfSome, OnOk, is_some, length, replicate, take};
+    ghost use Rattle.std.specs.Prelude.{◌≡◌, ◌<◌, false, Some, List, Option, IfOk, IfSome, OnOk, is_some, length, replicate, take};
     ghost use Rattle.dr_disk.specs.Called.{Called};
     ghost use Rattle.dr_disk.specs.Spans.{Span};
     ghost use Rattle.dr_disk.specs.State.{Always};
@@ -75,7 +78,25 @@ impl BookStore {
     ghost use Rattle.book_store.specs.Layout.{HasBook};
     ghost use Rattle.book_store.specs.Shown.{BookRow};
     ghost use Rattle.book_store.specs.Staging.{AwaitsRetire, IsStagedOver, MayStage, Rests};
-    ghost use Rattle.book_store.specs.Store.{IsNewName, IsUnstaged, all_drops, committed, name_at, retire_calls, retired, text_at, with_row, without_row, writes_at};
+    ghost use Rattle.book_store.specs.Store.{IsNewName, IsUnstaged, all_drops, committed, empty_store, name_at, retire_calls, retired, text_at, with_row, without_row, writes_at};
+
+    /// For a disk of which all tables and pages are zeros: all rows are absent, and the first commit
+    /// goes to table 0, with turn 1. Takes all memory that the other calls work in.
+    pub fn new(alloc: Global, rows: u32) -> Result<BookStore, AllocError>
+        requires { rows ≤ BOOK_ROWS }
+        ensures { IfOk result (λ store. store ≡ empty_store rows) }
+    {
+        Ok(BookStore {
+            desk: Desk::new(alloc, rows)?,
+            rows: absent_rows(alloc)?,
+            staged: vec![in alloc; false; BOOK_ROWS as usize]?,
+            replaced: false,
+            draft: take_draft(alloc, row_bounds())?,
+            fresh: Vec::with_capacity(alloc, ROW_PAGES as usize)?,
+            dropped: Vec::with_capacity(alloc, ROW_MOST as usize * BOOK_ROWS as usize)?,
+            zeros: vec![in alloc; 0; BOOK_TABLE as usize - 1]?,
+        })
+    }
 
     /// The name of a row; none exactly where the row is absent.
     pub fn name(&self, row: usize) -> Option<&str>

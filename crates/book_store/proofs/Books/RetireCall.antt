@@ -30,7 +30,7 @@ use Rattle.book_store.specs.declared.held.HeldRow.{HeldRow}
 use Rattle.book_store.specs.declared.layout.TheConstants.{BOOK_ROWS, ROW_PAGES}
 
 -- no row has dropped a page once all are retired
-no_drops : (n r : ℕ) → get_or (replicate {A = List ℕ} n []) r [] ≡ []
+pub no_drops : (n r : ℕ) → get_or (replicate {A = List ℕ} n []) r [] ≡ []
 no_drops zero r = refl
 no_drops (suc n) zero = refl
 no_drops (suc n) (suc r) = no_drops n r
