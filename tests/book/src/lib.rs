@@ -1,6 +1,9 @@
-//! Tests of the address book's store: its tables and their damage, by another implementation.
+//! Tests of the address book's store: its tables and their damage, and how they change, by another
+//! implementation.
 #![tactic(auto)]
 
+#[cfg(test)]
+mod changes;
 #[cfg(test)]
 mod damage;
 #[cfg(test)]

@@ -63,12 +63,17 @@ fn has_digest(
     rows: &[Row],
     sha256: &str,
 ) -> Result<bool, AllocError> {
-    let Ok(expected) = decode(alloc, sha256) else {
-        return Ok(false);
-    };
     match table_of(alloc, turn, rows)? {
-        Some(table) => Ok(Sha256::digest(&table)[..] == expected[..]),
+        Some(table) => is_digest(alloc, &table, sha256),
         None => Ok(false),
+    }
+}
+
+/// Whether bytes have a digest, in hex.
+pub(crate) fn is_digest(alloc: Global, bytes: &[u8], sha256: &str) -> Result<bool, AllocError> {
+    match decode(alloc, sha256) {
+        Ok(expected) => Ok(Sha256::digest(bytes)[..] == expected[..]),
+        Err(_) => Ok(false),
     }
 }
 
