@@ -1,9 +1,11 @@
 pub mod Listed
 pub mod Laying
 pub mod Zeros
+pub mod RowReadings
 pub mod Readings
 pub mod Marking
 pub mod Storing
+pub mod Renewing
 pub mod Seen
 pub mod Over
 pub mod RowStaged

@@ -10,8 +10,8 @@ use Rattle.book_store.specs.Rows.{book_names}
 use Rattle.book_store.specs.Shown.{BookRow, absent}
 use Rattle.book_store.specs.declared.layout.TheConstants.{BOOK_ROWS, BOOK_TABLE}
 
--- which table is current, table 1 or table 0, its turn, 0 where none is open, and the numbers of each
--- row's pages
+-- which table is current, table 1 or table 0, its turn, 0 where none is open, and the numbers of
+-- each row's pages
 pub record BookMark : Type 0 where
   pub second : Bool
   pub turn : ℕ

@@ -19,7 +19,8 @@ numbers_seen row = row.kept.numbers.items
 abbrev pub drops_seen : List Bool → List HeldRow → List (List ℕ)
 drops_seen [] rows = []
 drops_seen (staged ∷ more) [] = []
-drops_seen (staged ∷ more) (row ∷ rows) = (if staged then row.dropped.items else []) ∷ drops_seen more rows
+drops_seen (staged ∷ more) (row ∷ rows) =
+    (if staged then row.dropped.items else []) ∷ drops_seen more rows
 
 abbrev pub store_seen : ℕ → Bool → ℕ → List HeldRow → List Bool → Bool → BookStore
 store_seen count second turn rows staged replaced = record {

@@ -55,5 +55,6 @@ pub record IsReplacedBy (old new : Kept) (text gone : List ℕ) : Type 0 where
   pub record_is : IsRowRecord new
   pub text_is : text_of new ≡ text
   pub numbers : new.numbers.items
-      ≡ numbered (pages_in (text_of old)) old.numbers.items (pages_in text) (free_of_row old.numbers.items)
+      ≡ numbered (pages_in (text_of old)) old.numbers.items (pages_in text)
+      (free_of_row old.numbers.items)
   pub gone_is : gone ≡ dropped (pages_in (text_of old)) old.numbers.items (pages_in text)

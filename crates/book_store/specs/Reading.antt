@@ -37,7 +37,8 @@ damage_at r (Some at) = Some (record { row = r; at = PAGE + at })
 -- of a row's bytes and its pages: the first fault of its record, or else of the zeros behind it
 unfoldable pub row_damage : (List ℕ → Option ℕ) → ℕ → List ℕ → List (List ℕ) → Option RowDamage
 row_damage fault_at r row pages =
-    if slice_index row 0 == 1 then damage_at r (record_fault fault_at (record_table row) pages) else None
+    if slice_index row 0 == 1
+    then damage_at r (record_fault fault_at (record_table row) pages) else None
 
 abbrev pub or_later : Option RowDamage → Option RowDamage → Option RowDamage
 or_later (Some damage) later = Some damage

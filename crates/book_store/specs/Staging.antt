@@ -20,11 +20,12 @@ IsNoneIn p numbers = All (λ n. n ≢ p) numbers
 abbrev pub IsSpare : BookStore → ℕ → ℕ → List ℕ → Type 0
 IsSpare store r p c =
     r < store.rows → p < ROW_PAGES → IsNoneIn p (numbers_at store.mark store.held r)
-    → IsNoneIn p (drops_at store r) → page_of (book_layout store.rows) c (ROW_PAGES * r + p) ≡ blank_page
+    → IsNoneIn p (drops_at store r)
+    → page_of (book_layout store.rows) c (ROW_PAGES * r + p) ≡ blank_page
 
 -- a row that wasn't staged is the one that stands
-pub record IsAsStanding (store : BookStore) (mark : BookMark) (standing : List (Option BookRow)) (r : ℕ)
-    : Type 0 where
+pub record IsAsStanding (store : BookStore) (mark : BookMark) (standing : List (Option BookRow))
+    (r : ℕ) : Type 0 where
   pub row : get_or store.held r None ≡ get_or standing r None
   pub numbers : get_or store.mark.numbers r [] ≡ get_or mark.numbers r []
 
@@ -51,8 +52,8 @@ unfoldable pub Rests : BookStore → List ℕ → Type 0
 Rests store c = IsBookAtRest store.rows store.mark store.held c
 
 -- Committed and not yet retired: the rows stand and their table is newer than the other, and all
--- pages are zeros but for theirs and those that they dropped. Where no table was replaced the book is
--- at rest.
+-- pages are zeros but for theirs and those that they dropped. Where no table was replaced the book
+-- is at rest.
 pub record IsCommittedBook (store : BookStore) (c : List ℕ) : Type 0 where
   pub current : table_at (book_layout store.rows) store.mark.second c
       ≡ (laid_book store.mark store.held).table

@@ -128,7 +128,8 @@ impl Desk {
     /// Stages that a row is absent. No call on the disk is made.
     pub fn stage_empty(&mut self, row: usize)
         requires { row < BOOK_ROWS }
-        ensures next { IsWithBody self.old self.new (with_row_in self.old.body.items row absent_row) }
+        ensures next { IsWithBody self.old self.new
+            (with_row_in self.old.body.items row absent_row) }
         ensures others { (r : ℕ) → r ≢ row
             → row_in self.new.body.items r ≡ row_in self.old.body.items r }
         ensures none { row_names (row_in self.new.body.items row) ≡ [] }

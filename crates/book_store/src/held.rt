@@ -79,8 +79,8 @@ impl HeldRow {
         requires text { HasText row_bounds text.old len }
         requires rooms { HasStagingRoom draft.old fresh.old }
         requires sound { IsSound (book_layout desk.old.rows) (D.state disk.old).size }
-        requires free { AreUnnamed book_names (book_layout desk.old.rows) (row_free row self.old.kept)
-            (D.state disk.old) }
+        requires free { AreUnnamed book_names (book_layout desk.old.rows)
+            (row_free row self.old.kept) (D.state disk.old) }
 
         // The disk, and the table to come.
         ensures staged { (was : Snapshot) (held : ℕ → List (List ℕ))

@@ -11,8 +11,8 @@ ghost use Rattle.book_store.specs.Shown.{BookRow};
 
 use dr_disk::Disk;
 
-/// Rows are staged from one moment to another, and more of them from then on: all that time each crash
-/// leaves the rows that stand.
+/// Rows are staged from one moment to another, and more of them from then on: all that time each
+/// crash leaves the rows that stand.
 pub fn stay_as_they_were<D: Disk>(start: &D, mid: &D, end: &D)
     ensures any_moment { (rows : ℕ) (book : List (Option BookRow))
         → Span (D.state start.now) (D.state mid.now) (KeepsRows rows book (D.state start.now))

@@ -12,6 +12,7 @@ pub use layout::{
 };
 pub use store::BookStore;
 
+mod changing;
 mod desk;
 mod errors;
 mod gathering;

@@ -86,8 +86,8 @@ fn plan_row(
     shift(row, &draft.free[..count], fresh);
 }
 
-/// Puts a text in place of a row's record: what of it changes is written to pages of the row that no
-/// open table names, and the row goes into the table to come.
+/// Puts a text in place of a row's record: what of it changes is written to pages of the row that
+/// no open table names, and the row goes into the table to come.
 pub(crate) fn stage_record<D: Disk>(
     desk: &mut Desk,
     disk: &mut D,

@@ -7,8 +7,6 @@ ghost use Rattle.book_store.specs.Store.{IsLawfulStore, body_of};
 ghost use Rattle.book_store.specs.declared.layout.TheConstants.{BOOK_ROWS, BOOK_TABLE, ROW_MOST};
 
 use crate::desk::Desk;
-use crate::errors::StoreFault;
-use crate::gathering::gather;
 use crate::held::{HeldRow, absent_rows};
 use crate::layout::{BOOK_ROWS, BOOK_TABLE, ROW_MOST, ROW_PAGES};
 use crate::record::row_bounds;
@@ -18,8 +16,8 @@ use relay_wire::Name;
 use std::alloc::{AllocError, Global};
 use std::marker::Model;
 
-/// A book's store, in memory that was taken at opening. A contract sees its rows, where they lie, and
-/// which of them are staged.
+/// A book's store, in memory that was taken when it was made. A contract sees its rows, where they
+/// lie, and which of them are staged.
 ///
 /// Rows are staged, one after the other, committed all at once, and then what they replaced is
 /// retired. After a call that failed it has to be opened again.
@@ -34,7 +32,8 @@ pub struct BookStore {
     pub(crate) fresh: Vec<u32>,
     pub(crate) dropped: Vec<u32>,
     pub(crate) zeros: Vec<u8>,
-    ghost lawful: { IsLawfulStore (store_seen desk.rows desk.second desk.turn rows.items staged.items replaced) },
+    ghost lawful: { IsLawfulStore
+        (store_seen desk.rows desk.second desk.turn rows.items staged.items replaced) },
     ghost laid: { desk.body.items
         ≡ body_of (store_seen desk.rows desk.second desk.turn rows.items staged.items replaced) },
     ghost rooms: { HasStagingRoom draft fresh },
@@ -48,9 +47,11 @@ impl Model for BookStore {
 
     ghost Value = { Stored };
 
-    ghost view = { λ s. store_seen s.desk.rows s.desk.second s.desk.turn s.rows.items s.staged.items s.replaced };
+    ghost view = { λ s. store_seen s.desk.rows s.desk.second s.desk.turn
+        s.rows.items s.staged.items s.replaced };
 
-    ghost invariant = { λ s. IsLawfulStore (store_seen s.desk.rows s.desk.second s.desk.turn s.rows.items s.staged.items s.replaced) };
+    ghost invariant = { λ s. IsLawfulStore (store_seen s.desk.rows s.desk.second s.desk.turn
+        s.rows.items s.staged.items s.replaced) };
 }
 
 /// A name, as text.
@@ -64,24 +65,16 @@ fn words(name: &Name) -> &str
 }
 
 impl BookStore {
-    ghost use Rattle.std.specs.Prelude.{◌≡◌, ◌<◌, false, Some, List, Option, IfOk, IfSome, OnOk, is_some, length, replicate, take};
-    ghost use Rattle.dr_disk.specs.Called.{Called};
-    ghost use Rattle.dr_disk.specs.Spans.{Span};
+    ghost use Rattle.std.specs.Prelude.{◌≡◌, ◌<◌, false, Some, List, Option, IfOk, IfSome, is_some};
     ghost use Rattle.dr_disk.specs.State.{Always};
-    ghost use Rattle.dr_disk.specs.declared.call.Call.TheVariants.{Write};
-    ghost use Rattle.pages.specs.Runs.{FailsBy, only};
-    ghost use Rattle.pages.specs.Stops.{put_call, puts, retire_call};
-    ghost use Rattle.paged_records.specs.Bounded.{HasRecordMemory, HasText};
     ghost use Rattle.book_store.specs.AtRest.{IsBookMarked};
-    ghost use Rattle.book_store.specs.Kept.{row_bounds};
-    ghost use Rattle.book_store.specs.Committing.{CommitsRows, HasRetired, KeepsRows, ReadsOutsideBook, StagesRow, call_of};
     ghost use Rattle.book_store.specs.Layout.{HasBook};
     ghost use Rattle.book_store.specs.Shown.{BookRow};
-    ghost use Rattle.book_store.specs.Staging.{AwaitsRetire, IsStagedOver, MayStage, Rests};
-    ghost use Rattle.book_store.specs.Store.{IsNewName, IsUnstaged, all_drops, committed, empty_store, name_at, retire_calls, retired, text_at, with_row, without_row, writes_at};
+    ghost use Rattle.book_store.specs.Staging.{IsStagedOver, MayStage, Rests};
+    ghost use Rattle.book_store.specs.Store.{IsUnstaged, empty_store, name_at, text_at, without_row};
 
-    /// For a disk of which all tables and pages are zeros: all rows are absent, and the first commit
-    /// goes to table 0, with turn 1. Takes all memory that the other calls work in.
+    /// For a disk of which all tables and pages are zeros: all rows are absent, and the first
+    /// commit goes to table 0, with turn 1. Takes all memory that the other calls work in.
     pub fn new(alloc: Global, rows: u32) -> Result<BookStore, AllocError>
         requires { rows ≤ BOOK_ROWS }
         ensures { IfOk result (λ store. store ≡ empty_store rows) }
@@ -122,126 +115,8 @@ impl BookStore {
         }
     }
 
-    /// Stages a row: under this name it is to have the first `len` bytes of a text, and what of them
-    /// changes is written. The text's room is taken over with it, and the room of the record before is
-    /// handed back. Until a commit each crash leaves the rows that stand.
-    pub fn stage<D: Disk>(
-        &mut self,
-        disk: &mut D,
-        row: usize,
-        name: Name,
-        text: &mut Vec<u8>,
-        len: usize,
-    ) -> Result<(), StoreFault>
-        requires row { row < self.old.rows }
-        requires once { IsUnstaged self.old row }
-        requires name { IsNewName self.old row name }
-        requires text { HasText row_bounds text.old len }
-        requires may { MayStage self.old (D.state disk.old) }
-
-        // What the store holds now, whether or not a call failed; and what the disk stands for.
-        ensures next { self.new ≡ with_row self.old row name (take len text.old.items) }
-        ensures stages { (standing : List (Option BookRow))
-            → IsStagedOver self.old standing (D.state disk.old)
-            → StagesRow self.new standing (D.state disk.old) (D.state disk.new) result }
-        ensures reads { ReadsOutsideBook self.old.rows (D.state disk.old) (D.state disk.new) }
-        ensures room { HasRecordMemory row_bounds text.new }
-
-        // How the calls went.
-        ensures calls { Called (writes_at self.old row (take len text.old.items)) call_of
-            (D.state disk.old) (D.state disk.new) result }
-        ensures kind { FailsBy call_of (only Write) (D.state disk.old) (D.state disk.new) result }
-    {
-        let _size = disk.size();
-        let held = &mut self.rows[row];
-        let done = held.stage(
-            &mut self.desk,
-            disk,
-            row,
-            name,
-            &mut self.draft,
-            &mut self.fresh,
-            text,
-            len,
-        );
-        self.staged[row] = true;
-        match done {
-            Ok(()) => {}
-            Err(call) => return Err(StoreFault { call }),
-        }
-        Ok(())
-    }
-
-    /// Stages that a row is absent. No call on the disk is made.
-    pub fn stage_empty(&mut self, row: usize)
-        requires row { row < self.old.rows }
-        requires once { IsUnstaged self.old row }
-        ensures { self.new ≡ without_row self.old row }
-    {
-        let held = &mut self.rows[row];
-        held.clear();
-        self.desk.stage_empty(row);
-        self.staged[row] = true;
-    }
-
-    /// Commits: all rows that were staged take the place of those that stand, or none does.
-    pub fn commit<D: Disk>(&mut self, disk: &mut D) -> Result<(), StoreFault>
-        requires may { MayStage self.old (D.state disk.old) }
-        ensures next { self.new ≡ committed self.old }
-        ensures marked { IsBookMarked self.new.rows self.new.mark self.new.held }
-        ensures commits { (standing : List (Option BookRow))
-            → IsStagedOver self.old standing (D.state disk.old)
-            → CommitsRows self.new standing (D.state disk.old) (D.state disk.new) result }
-        ensures reads { ReadsOutsideBook self.old.rows (D.state disk.old) (D.state disk.new) }
-
-        // How the calls went.
-        ensures calls { Called (puts 0) call_of (D.state disk.old) (D.state disk.new) result }
-        ensures kind { FailsBy call_of (put_call 0) (D.state disk.old) (D.state disk.new) result }
-    {
-        let _size = disk.size();
-        self.replaced = self.desk.turn != 0;
-        match self.desk.commit(disk) {
-            Ok(()) => {}
-            Err(call) => return Err(StoreFault { call }),
-        }
-        Ok(())
-    }
-
-    /// Closes the table that was replaced, if there is one, and wipes it and the pages that it alone
-    /// names. It is called once after each commit.
-    pub fn retire<D: Disk>(&mut self, disk: &mut D) -> Result<(), StoreFault>
-        requires within { HasBook self.old.rows (D.state disk.old) }
-        requires awaits { Always (AwaitsRetire self.old) (D.state disk.old) }
-        ensures next { self.new ≡ retired self.old }
-
-        // Each crash meanwhile leaves the store's rows; once it is done, the book is at rest.
-        ensures any_moment { Span (D.state disk.old) (D.state disk.new)
-            (KeepsRows self.old.rows self.old.held (D.state disk.old)) }
-        ensures at_rest { OnOk result (Always (HasRetired self.new (D.state disk.old))
-            (D.state disk.new)) }
-        ensures reads { ReadsOutsideBook self.old.rows (D.state disk.old) (D.state disk.new) }
-
-        // How the calls went.
-        ensures calls { Called (retire_calls self.old) call_of
-            (D.state disk.old) (D.state disk.new) result }
-        ensures kind { FailsBy call_of (retire_call (length (all_drops self.old)))
-            (D.state disk.old) (D.state disk.new) result }
-    {
-        gather(self.desk.rows, &self.rows, &self.staged, &mut self.dropped);
-        self.staged.fill(false);
-        if !self.replaced {
-            return Ok(());
-        }
-        let _size = disk.size();
-        match self.desk.retire(disk, &self.dropped, &self.zeros) {
-            Ok(()) => {}
-            Err(call) => return Err(StoreFault { call }),
-        }
-        Ok(())
-    }
-
-    /// Of a row that is to be staged absent: it is then staged over the rows that stand. The function
-    /// has no code, and a caller that needs this calls it before `stage_empty`.
+    /// Of a row that is to be staged absent: it is then staged over the rows that stand. A caller
+    /// that needs this calls it before `stage_empty`.
     pub fn staged_empty<D: Disk>(&self, disk: &D, row: usize)
         requires row { row < self.now.rows }
         requires once { IsUnstaged self.now row }
@@ -252,8 +127,8 @@ impl BookStore {
         let _rows = self.desk.rows;
     }
 
-    /// Over a book at rest, of which no row is staged, rows may be staged. The function has no code, and
-    /// a caller that needs this calls it.
+    /// Over a book at rest, of which no row is staged, rows may be staged. A caller that needs this
+    /// calls it.
     pub fn may_stage<D: Disk>(&self, disk: &D)
         requires within { HasBook self.now.rows (D.state disk.now) }
         requires none { self.now.staged ≡ replicate BOOK_ROWS false }

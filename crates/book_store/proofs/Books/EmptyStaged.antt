@@ -10,7 +10,7 @@ use Rattle.book_store.proofs.Books.Laying.{row_named}
 use Rattle.book_store.proofs.Books.Listed.{Book}
 use Rattle.book_store.proofs.Books.Marking.{at_place, elsewhere}
 use Rattle.book_store.proofs.Books.Over.{none_standing}
-use Rattle.book_store.proofs.Books.Storing.{empty_gone, empty_gone_there, empty_lawful, empty_own, empty_there, empty_unstaged}
+use Rattle.book_store.proofs.Books.Renewing.{empty_gone, empty_gone_there, empty_lawful, empty_own, empty_there, empty_unstaged}
 use Rattle.book_store.specs.AtRest.{row_pages}
 use Rattle.book_store.specs.Layout.{book_layout}
 use Rattle.book_store.specs.Rows.{row_in, row_names, shifted}

@@ -10,7 +10,7 @@ use Rattle.pages.specs.Layouts.{IsPage}
 use Rattle.pages.specs.Snapshots.{page_of}
 use Rattle.book_store.proofs.Books.Laying.{are_pages, beside, each_row, own_small, row_named}
 use Rattle.book_store.proofs.Books.Listed.{pages_listed}
-use Rattle.book_store.proofs.Books.Readings.{long}
+use Rattle.book_store.proofs.Books.RowReadings.{long}
 use Rattle.book_store.proofs.Books.Zeros.{table_body}
 use Rattle.book_store.proofs.RowPlans.{shifted_long}
 use Rattle.book_store.specs.AtRest.{IsBookMarked, all_pages, laid_book}

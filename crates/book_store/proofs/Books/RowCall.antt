@@ -18,7 +18,7 @@ use Rattle.book_store.proofs.Books.Listed.{Book}
 use Rattle.book_store.proofs.Books.Over.{are_beside, are_unnamed, keeps_rows, keeps_still}
 use Rattle.book_store.proofs.Books.RowStaged.{over_next}
 use Rattle.book_store.proofs.Books.Seen.{numbers_here, pages_here, seen_with}
-use Rattle.book_store.proofs.Books.Storing.{plan, row_body, row_lawful}
+use Rattle.book_store.proofs.Books.Renewing.{plan, row_body, row_lawful}
 use Rattle.book_store.specs.AtRest.{laid_book}
 use Rattle.book_store.specs.Committing.{StagesRow}
 use Rattle.book_store.specs.Desk.{IsWithBody, KeepsOthers, StandsStaged, holding}

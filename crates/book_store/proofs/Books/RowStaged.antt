@@ -12,7 +12,7 @@ use Rattle.relay_wire.specs.Names.{is_name}
 use Rattle.book_store.proofs.Books.Listed.{Book}
 use Rattle.book_store.proofs.Books.Marking.{at_place, elsewhere}
 use Rattle.book_store.proofs.Books.Over.{held_here, held_there, none_standing, restated}
-use Rattle.book_store.proofs.Books.Storing.{fresh_count, has_pages, plan, row_gone, row_gone_there, row_own, row_there, short}
+use Rattle.book_store.proofs.Books.Renewing.{fresh_count, has_pages, plan, row_gone, row_gone_there, row_own, row_there, short}
 use Rattle.book_store.proofs.RowPlans.{shifted_at, shifted_long}
 use Rattle.book_store.specs.AtRest.{laid_book, row_pages}
 use Rattle.book_store.specs.Desk.{KeepsOthers, StandsStaged, holding}

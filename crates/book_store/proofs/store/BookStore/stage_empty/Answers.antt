@@ -10,7 +10,7 @@ use Rattle.book_store.specs.declared.desk.Desk.{Desk}
 use Rattle.book_store.specs.declared.held.HeldRow.{HeldRow}
 use Rattle.book_store.specs.Desk.{IsWithBody}
 use Rattle.book_store.proofs.Books.Seen.{numbers_here, seen_with}
-use Rattle.book_store.proofs.Books.Storing.{empty_body, empty_lawful}
+use Rattle.book_store.proofs.Books.Renewing.{empty_body, empty_lawful}
 use Rattle.book_store.proofs.store.BookStore.stage_empty.Goals as goal
 
 module _ (desk next : Desk) (rows : List HeldRow) (staged : List Bool) (replaced : Bool) (r : ℕ) (old new : HeldRow)
