@@ -22,3 +22,4 @@ pub mod EmptyStaged
 pub mod Ascii
 pub mod Resting
 pub mod Empty
+pub mod Blank

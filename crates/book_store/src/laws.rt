@@ -1,13 +1,17 @@
 //! What follows for whole books. The functions have no code: a caller that needs a fact calls them.
 
-ghost use Rattle.std.specs.Prelude.{◌≡◌, ℕ, List, Option};
+ghost use Rattle.std.specs.Prelude.{◌≡◌, ◌≤◌, ℕ, List, Option, replicate};
 ghost use Rattle.dr_disk.specs.State.{Always};
 ghost use Rattle.dr_disk.specs.Spans.{HavePassed, Span};
-ghost use Rattle.book_store.specs.AtRest.{BookMark, IsBookAtRest};
+ghost use Rattle.book_store.specs.AtRest.{BookMark, IsBookAtRest, IsBookMarked};
 ghost use Rattle.book_store.specs.Committing.{HasRows, IsBookStopped, IsOldOrNewBook, KeepsRows};
 ghost use Rattle.book_store.specs.Judging.{book_fault};
 ghost use Rattle.book_store.specs.Marks.{AreMarks, RowMark, book_body};
+ghost use Rattle.book_store.specs.Layout.{book_end};
 ghost use Rattle.book_store.specs.Shown.{BookRow};
+ghost use Rattle.book_store.specs.Staging.{Rests};
+ghost use Rattle.book_store.specs.Store.{empty_store};
+ghost use Rattle.book_store.specs.declared.layout.TheConstants.{BOOK_ROWS};
 
 use dr_disk::Disk;
 
@@ -53,4 +57,12 @@ pub fn laid_tables_are_faultless()
 pub fn resting_books()
     ensures { (rows : ℕ) (mark : BookMark) (book : List (Option BookRow)) (c : List ℕ)
         → IsBookAtRest rows mark book c → HasRows rows book c }
+{}
+
+/// A disk of zeros is at rest for a store that was made for one.
+pub fn zeros_are_at_rest()
+    ensures at_rest { (rows size : ℕ) → rows ≤ BOOK_ROWS → book_end rows ≤ size
+        → Rests (empty_store rows) (replicate size 0) }
+    ensures marked { (rows : ℕ) → rows ≤ BOOK_ROWS
+        → IsBookMarked rows (empty_store rows).mark (empty_store rows).held }
 {}

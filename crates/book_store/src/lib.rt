@@ -5,7 +5,9 @@
 pub use desk::Desk;
 pub use errors::StoreFault;
 pub use judging::book_fault;
-pub use laws::{all_or_none, laid_tables_are_faultless, resting_books, stay_as_they_were};
+pub use laws::{
+    all_or_none, laid_tables_are_faultless, resting_books, stay_as_they_were, zeros_are_at_rest,
+};
 pub use layout::{
     BOOK_ROWS, BOOK_SIZE, BOOK_START, BOOK_TABLE, RECORD_PLACE, ROW_MOST, ROW_PAGES, ROW_SIZE,
     TABLE_ROW, limits_in_numbers,

@@ -66,7 +66,7 @@ module _ (rows : ℕ) (few : rows ≤ BOOK_ROWS) where
     differ = λ q r one other is there apart. none _ q one is;
   }
 
-  own_none : (r : ℕ) → numbers_at (empty_store rows).mark (empty_store rows).held r ≡ []
+  pub own_none : (r : ℕ) → numbers_at (empty_store rows).mark (empty_store rows).held r ≡ []
   own_none r = ap (λ o. numbers_of o (get_or (replicate {A = List ℕ} BOOK_ROWS []) r [])) (none_absent BOOK_ROWS r)
 
   pub none_lawful : IsLawfulStore (empty_store rows)
