@@ -46,14 +46,14 @@ fn end<D: Door, L: Link>(door: &mut D, link: &mut L) -> bool {
 /// Whether both ends connect, do their parts, and end.
 fn go<D: Door, L: Link>(door: &mut D, link: &mut L) -> bool {
     fail_alone(door, link)
-        && are_joined(door, link, 47613, "127.0.0.1:47613")
+        && are_joined(door, link, 27613, "127.0.0.1:27613")
         && talk(door, link)
         && end(door, link)
 }
 
 /// Whether a link that ends with bytes that it didn't read breaks the connection.
 fn break_off<D: Door, L: Link>(door: &mut D, link: &mut L) -> bool {
-    if !are_joined(door, link, 47615, "127.0.0.1:47615") {
+    if !are_joined(door, link, 27615, "127.0.0.1:27615") {
         return false;
     }
     let is_sent = door.send(b"unread") == Ok(6);
@@ -63,10 +63,10 @@ fn break_off<D: Door, L: Link>(door: &mut D, link: &mut L) -> bool {
 
 /// Whether a door that is joined accepts a connection at another address.
 fn accepts_another<D: Door, L: Link>(rt: &HostRuntime, door: &mut D, link: &mut L) -> bool {
-    if !are_joined(door, link, 47616, "127.0.0.2:47616") {
+    if !are_joined(door, link, 27616, "127.0.0.2:27616") {
         return false;
     }
-    match TcpStream::connect(rt, "127.0.0.3:47616") {
+    match TcpStream::connect(rt, "127.0.0.3:27616") {
         Ok(mut second) => second.write(b"!").is_ok() && door.accept() == Ok(()),
         Err(_) => false,
     }
@@ -75,12 +75,12 @@ fn accepts_another<D: Door, L: Link>(rt: &HostRuntime, door: &mut D, link: &mut 
 /// Whether a door accepts the one that speaks, of three who came: one before it hung up, and one
 /// says nothing.
 fn accepts_who_speaks<D: Door, L: Link>(rt: &HostRuntime, door: &mut D, link: &mut L) -> bool {
-    if door.listen(47621).is_err() {
+    if door.listen(27621).is_err() {
         return false;
     }
-    let _gone = TcpStream::connect(rt, "127.0.0.1:47621").is_ok();
-    match TcpStream::connect(rt, "127.0.0.1:47621") {
-        Ok(_silent) => is_heard(door, link, "127.0.0.1:47621"),
+    let _gone = TcpStream::connect(rt, "127.0.0.1:27621").is_ok();
+    match TcpStream::connect(rt, "127.0.0.1:27621") {
+        Ok(_silent) => is_heard(door, link, "127.0.0.1:27621"),
         Err(_) => false,
     }
 }

@@ -29,7 +29,7 @@ fn bounded(least: u64, most: u64) -> Patience {
 /// Whether both ends of a connection on which nothing is said give it up, after two times 35
 /// milliseconds at least.
 fn give_up<D: Door, L: Link>(rt: &HostRuntime, door: &mut D, link: &mut L) -> bool {
-    if !are_joined(door, link, 47617, "127.0.0.1:47617") {
+    if !are_joined(door, link, 27617, "127.0.0.1:27617") {
         return false;
     }
     let start = Instant::now(rt);
@@ -62,7 +62,7 @@ fn breaks_off<D: Door, L: Link>(
     link: &mut L,
     bytes: &[u8],
 ) -> bool {
-    if !are_joined(door, link, 47618, "127.0.0.1:47618") {
+    if !are_joined(door, link, 27618, "127.0.0.1:27618") {
         return false;
     }
     let came = trickled(rt, link, door, bytes);
@@ -71,7 +71,7 @@ fn breaks_off<D: Door, L: Link>(
 
 /// Whether a door receives all that a peer sends.
 fn bears<D: Door, L: Link>(rt: &HostRuntime, door: &mut D, link: &mut L) -> bool {
-    are_joined(door, link, 47619, "127.0.0.1:47619") && trickled(rt, link, door, &[7; 4096]) == 100
+    are_joined(door, link, 27619, "127.0.0.1:27619") && trickled(rt, link, door, &[7; 4096]) == 100
 }
 
 /// Sends this until that fails, and answers how many bytes the call before that took. There is no
@@ -93,7 +93,7 @@ fn is_stuffed<D: Door, L: Link>(alloc: Global, door: &mut D, link: &mut L) -> bo
     let Ok(bytes) = vec![in alloc; 7; 67_108_864] else {
         return false;
     };
-    are_joined(door, link, 47620, "127.0.0.1:47620")
+    are_joined(door, link, 27620, "127.0.0.1:27620")
         && matches!(stuffed(door, &bytes), Some(count) if count > 0)
 }
 

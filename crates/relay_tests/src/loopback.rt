@@ -85,7 +85,7 @@ fn exchange<A: Disk, L: Door, P: Pipe>(
 
 /// Whether it goes over both once they are joined, on a new disk.
 fn join<L: Door, P: Link>(alloc: Global, door: &mut L, link: &mut P) -> bool {
-    if door.listen(47614).is_err() || link.open("127.0.0.1:47614").is_err() {
+    if door.listen(27614).is_err() || link.open("127.0.0.1:27614").is_err() {
         return false;
     }
     match blank(alloc) {
