@@ -1,0 +1,4 @@
+mod Names
+mod Stepping
+mod Fanning
+pub mod Running
