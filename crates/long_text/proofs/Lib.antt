@@ -1,0 +1,6 @@
+mod Reading
+mod Told
+mod Stepping
+mod Wholes
+mod Arrived
+mod Cuts

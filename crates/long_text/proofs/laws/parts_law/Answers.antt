@@ -1,0 +1,8 @@
+use Rattle.long_text.proofs.Reading.{only, read}
+use Rattle.long_text.proofs.laws.parts_law.Goals as goal
+
+pub returns-clause-read : goal.returns-clause-read
+returns-clause-read c = read
+
+pub returns-clause-only : goal.returns-clause-only
+returns-clause-only c = only

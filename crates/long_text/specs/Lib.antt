@@ -1,0 +1,7 @@
+pub mod Limits
+pub mod Parts
+pub mod Pieces
+pub mod Longs
+pub mod Cuts
+pub mod Told
+pub mod Seen
