@@ -29,7 +29,7 @@ fn join(inbox: &Inbox, id: u32, n: u8, into: &mut [u8]) -> usize
 }
 
 /// Joins the parts of a long text that stand in an inbox: it stands at the beginning of the room
-/// then, and the answer is its length. What is behind it stays as it was, and so does the whole room
+/// then, and the answer is its length. What is behind it stays as it was, and so does all of it
 /// where this is refused. `NoLong` comes exactly where no part stands, else `Clash` with the first
 /// pair that clashes, else `Parts` where fewer numbers stand than the count says. Nothing is
 /// allocated.
