@@ -17,3 +17,4 @@ mod RowPlans
 mod Planning
 mod RowRecords
 pub mod Books
+pub mod Openings

@@ -1,9 +1,11 @@
 -- A store as its rows in memory show it.
-use Rattle.std.specs.Prelude.{ℕ, Bool, List, [], ◌∷◌, Option, None, Some, if◌then◌else◌, map}
+use Rattle.std.specs.Prelude.{ℕ, Bool, List, [], ◌∷◌, Option, None, Some, get_or, if◌then◌else◌, map}
 use Rattle.book_store.specs.Kept.{text_of}
+use Rattle.book_store.specs.Rows.{names_by}
 use Rattle.book_store.specs.Shown.{BookRow}
 use Rattle.book_store.specs.Store.{BookStore}
 use Rattle.book_store.specs.declared.held.HeldRow.{HeldRow}
+use Rattle.book_store.specs.declared.layout.TheConstants.{BOOK_ROWS}
 
 abbrev pub seen_as : Option (List ℕ) → List ℕ → Option BookRow
 seen_as None text = None
@@ -14,6 +16,10 @@ row_seen row = seen_as row.name (text_of row.kept)
 
 abbrev pub numbers_seen : HeldRow → List ℕ
 numbers_seen row = row.kept.numbers.items
+
+-- the pages that rows have
+unfoldable pub held_names : List HeldRow → List ℕ
+held_names rows = names_by BOOK_ROWS 0 (λ r. get_or (map numbers_seen rows) r [])
 
 -- what those rows dropped that were staged
 abbrev pub drops_seen : List Bool → List HeldRow → List (List ℕ)

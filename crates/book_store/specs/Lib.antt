@@ -12,3 +12,13 @@ pub mod Store
 pub mod Staging
 pub mod Committing
 pub mod Held
+pub mod LikeRead
+pub mod Readers
+pub mod Opened
+pub mod Counts
+pub mod RowReading
+pub mod RowsReading
+pub mod Scratch
+pub mod Locating
+pub mod Settling
+pub mod Outcome

@@ -53,7 +53,7 @@ impl HeldRow {
     ghost use Rattle.book_store.specs.Desk.{IsWithBody, KeepsOthers, StandsStaged, holding};
 
     /// An absent row, with room for a record.
-    fn absent(alloc: Global) -> Result<HeldRow, AllocError>
+    pub(crate) fn absent(alloc: Global) -> Result<HeldRow, AllocError>
         ensures { IfOk result (λ row. row.name ≡ None) }
     {
         Ok(HeldRow {

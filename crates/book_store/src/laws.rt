@@ -1,17 +1,18 @@
 //! What follows for whole books. The functions have no code: a caller that needs a fact calls them.
 
-ghost use Rattle.std.specs.Prelude.{◌≡◌, ◌≤◌, ℕ, List, Option, replicate};
+ghost use Rattle.std.specs.Prelude.{◌≡◌, ◌+◌, ◌≤◌, ℕ, List, Option, length, replicate};
+ghost use Rattle.dr_base.specs.Bytes.{AreBytes};
 ghost use Rattle.dr_disk.specs.State.{Always};
 ghost use Rattle.dr_disk.specs.Spans.{HavePassed, Span};
 ghost use Rattle.book_store.specs.AtRest.{BookMark, IsBookAtRest, IsBookMarked};
 ghost use Rattle.book_store.specs.Committing.{HasRows, IsBookStopped, IsOldOrNewBook, KeepsRows};
 ghost use Rattle.book_store.specs.Judging.{book_fault};
-ghost use Rattle.book_store.specs.Marks.{AreMarks, RowMark, book_body};
+ghost use Rattle.book_store.specs.Marks.{AreMarks, IsLaidTable, RowMark, book_body};
 ghost use Rattle.book_store.specs.Layout.{book_end};
 ghost use Rattle.book_store.specs.Shown.{BookRow};
 ghost use Rattle.book_store.specs.Staging.{Rests};
 ghost use Rattle.book_store.specs.Store.{empty_store};
-ghost use Rattle.book_store.specs.declared.layout.TheConstants.{BOOK_ROWS};
+ghost use Rattle.book_store.specs.declared.layout.TheConstants.{BOOK_ROWS, BOOK_TABLE};
 
 use dr_disk::Disk;
 
@@ -51,6 +52,12 @@ pub fn all_or_none<D: Disk>(start: &D, mid: &D, end: &D)
 pub fn laid_tables_are_faultless()
     ensures { (rows turn : ℕ) (marks : List (Option RowMark)) → AreMarks rows marks
         → book_fault rows (book_body turn marks) ≡ Option.None }
+{}
+
+/// A table without a fault is laid out from what its rows say: no byte of it says more.
+pub fn faultless_tables_are_laid()
+    ensures { (rows : ℕ) (body : List ℕ) → AreBytes body → length body + 1 ≡ BOOK_TABLE
+        → book_fault rows body ≡ Option.None → IsLaidTable rows body }
 {}
 
 /// A book at rest has its rows, and is read without damage.

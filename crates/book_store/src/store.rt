@@ -1,6 +1,6 @@
 //! A book's store: its rows are read from memory, and several change under one commit.
 
-ghost use Rattle.std.specs.Prelude.{◌≡◌, ◌-◌, ◌*◌, ◌≤◌, replicate, vec_capacity};
+ghost use Rattle.std.specs.Prelude.{◌≡◌, ◌-◌, ◌*◌, ◌≤◌, false, replicate, vec_capacity};
 ghost use Rattle.book_store.specs.Held.{store_seen};
 ghost use Rattle.book_store.specs.Kept.{HasStagingRoom};
 ghost use Rattle.book_store.specs.Store.{IsLawfulStore, body_of};
@@ -64,11 +64,39 @@ fn words(name: &Name) -> &str
     }
 }
 
+/// The rooms that a store works in.
+#[derive(Drop)]
+pub(crate) struct Rooms {
+    pub(crate) staged: Vec<bool>,
+    pub(crate) draft: Draft,
+    pub(crate) fresh: Vec<u32>,
+    pub(crate) dropped: Vec<u32>,
+    pub(crate) zeros: Vec<u8>,
+    ghost clear: { staged.items ≡ replicate BOOK_ROWS false },
+    ghost rooms: { HasStagingRoom draft fresh },
+    ghost gathered: { ROW_MOST * BOOK_ROWS ≤ vec_capacity dropped },
+    ghost zero: { zeros.items ≡ replicate (BOOK_TABLE - 1) 0 },
+}
+
+impl Rooms {
+    /// Takes them. No row is staged.
+    pub(crate) fn take(alloc: Global) -> Result<Rooms, AllocError> {
+        Ok(Rooms {
+            staged: vec![in alloc; false; BOOK_ROWS as usize]?,
+            draft: take_draft(alloc, row_bounds())?,
+            fresh: Vec::with_capacity(alloc, ROW_PAGES as usize)?,
+            dropped: Vec::with_capacity(alloc, ROW_MOST as usize * BOOK_ROWS as usize)?,
+            zeros: vec![in alloc; 0; BOOK_TABLE as usize - 1]?,
+        })
+    }
+}
+
 impl BookStore {
     ghost use Rattle.std.specs.Prelude.{◌≡◌, ◌<◌, false, Some, List, Option, IfOk, IfSome, is_some};
     ghost use Rattle.dr_disk.specs.State.{Always};
     ghost use Rattle.book_store.specs.AtRest.{IsBookMarked};
     ghost use Rattle.book_store.specs.Layout.{HasBook};
+    ghost use Rattle.book_store.specs.Locating.{IsStoreWith, store_with};
     ghost use Rattle.book_store.specs.Shown.{BookRow};
     ghost use Rattle.book_store.specs.Staging.{IsStagedOver, MayStage, Rests};
     ghost use Rattle.book_store.specs.Store.{IsUnstaged, empty_store, name_at, text_at, without_row};
@@ -79,16 +107,34 @@ impl BookStore {
         requires { rows ≤ BOOK_ROWS }
         ensures { IfOk result (λ store. store ≡ empty_store rows) }
     {
-        Ok(BookStore {
-            desk: Desk::new(alloc, rows)?,
-            rows: absent_rows(alloc)?,
-            staged: vec![in alloc; false; BOOK_ROWS as usize]?,
+        let desk = Desk::new(alloc, rows)?;
+        let rows = absent_rows(alloc)?;
+        let rooms = Rooms::take(alloc)?;
+        Ok(BookStore::of_rows(desk, rows, rooms))
+    }
+
+    /// A store of these rows, of which none is staged.
+    pub(crate) fn of_rows(desk: Desk, rows: Vec<HeldRow>, rooms: Rooms) -> BookStore
+        requires { IsStoreWith desk rows.items }
+        ensures { result ≡ store_with desk rows.items }
+    {
+        let Rooms {
+            staged,
+            draft,
+            fresh,
+            dropped,
+            zeros,
+        } = rooms;
+        BookStore {
+            desk,
+            rows,
+            staged,
             replaced: false,
-            draft: take_draft(alloc, row_bounds())?,
-            fresh: Vec::with_capacity(alloc, ROW_PAGES as usize)?,
-            dropped: Vec::with_capacity(alloc, ROW_MOST as usize * BOOK_ROWS as usize)?,
-            zeros: vec![in alloc; 0; BOOK_TABLE as usize - 1]?,
-        })
+            draft,
+            fresh,
+            dropped,
+            zeros,
+        }
     }
 
     /// The name of a row; none exactly where the row is absent.

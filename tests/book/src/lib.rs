@@ -7,4 +7,6 @@ mod changes;
 #[cfg(test)]
 mod damage;
 #[cfg(test)]
+mod opening;
+#[cfg(test)]
 mod tables;

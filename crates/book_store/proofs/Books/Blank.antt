@@ -58,7 +58,7 @@ module _ (size : ℕ) where
     abbrev body : List ℕ
     body = book_body 0 (row_marks (absent BOOK_ROWS) (replicate BOOK_ROWS []))
 
-    none_named : book_names body ≡ []
+    pub none_named : book_names body ≡ []
     unfolding book_names
     none_named = rows_same BOOK_ROWS 0 (λ r. row_names (row_in body r)) (λ r. [])
         (λ s le lt. row_named rows 0 (absent BOOK_ROWS) (replicate BOOK_ROWS []) (no_marks rows few) s (omega (arith, lt)) ∙ own_none rows few s)

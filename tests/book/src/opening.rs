@@ -1,0 +1,259 @@
+//! Whole disks as they are opened, by an independent implementation: a book of 3 rows whose texts
+//! begin with a T, and what damages it.
+
+use crate::tables::is_digest;
+use book_store::{BOOK_START, BookOpenError, BookStore, Grammar, ROW_MOST, ROW_SIZE, RowGrammar};
+use dr_base::PAGE;
+use dr_disk::{Disk, MemoryDisk};
+use hex::decode;
+use relay_wire::Name;
+use std::alloc::{AllocError, Global};
+use std::test::Fail;
+
+ghost use Rattle.std.specs.Prelude.{⊤, ◌==◌, None, Some, if◌then◌else◌, slice_index};
+
+/// A reader of texts that begin with a T, which keeps how long the text was.
+#[derive(Drop)]
+struct Reader {
+    len: usize,
+}
+
+impl Grammar for Reader {
+    ghost fault_at = { λ text. if slice_index text 0 == 84 then None else Some 0 };
+
+    ghost is_new = { λ r. ⊤ };
+
+    ghost has_read = { λ r text. ⊤ };
+
+    fn read(&mut self, text: &[u8]) -> Result<(), u32> {
+        if text.first() != Some(&b'T') {
+            return Err(0);
+        }
+        self.len = text.len();
+        Ok(())
+    }
+}
+
+impl RowGrammar for Reader {
+    fn fresh(_alloc: Global) -> Result<Reader, AllocError> {
+        Ok(Reader { len: 0 })
+    }
+}
+
+/// What a row is to have: its place, its name, a letter, and how many of it stand behind a T; no
+/// name where it is to be absent.
+type Row = (usize, &'static str, u8, usize);
+
+/// Rows that change under one commit, and the digest of the whole disk then.
+type Event = (&'static [Row], &'static str);
+
+/// The events of a book that is new, one after the other.
+const EVENTS: [Event; 9] = [
+    (&[(0, "a", b'p', 0)], "af1bc2cd0694b94c60bd6284b7d70860765482615d266d4b8a7ff11298f544ed"),
+    (&[(1, "b", b'q', 4095), (2, "c", b'r', 4096)], "3fb3364843b8fa31b736dd54127372d16ab57f6a9b83b3ebddc36edc1261d552"),
+    (&[(0, "a", b'p', 8191)], "4ab068d6650c7fc4fdfd913e3a2820feb9334136215407b5bea69d95613efbfa"),
+    (&[(0, "a", b's', 5000), (1, "", 0, 0), (2, "c", b'r', 4096)], "72f8f34a57b72900d1152655a871eaa7ea3d277c1f2aa84df039f7695f0a19d1"),
+    (&[(2, "c", b'r', 12000), (0, "a", b'p', 8191)], "9449f4a4f8c9043f4b948758907c7c6f65af1ef0cd6ccddb91d40909e1aec456"),
+    (&[(1, "b-2", b'u', 778239)], "bcac0bff4e630af5f5dd7636be84fdb0bfa099202ab1a9949c4d43df796c0d11"),
+    (&[(1, "b-2", b'v', 778239)], "2d8da7cfc56030da3bf790eed739557b7cdeb0f169d678b353d5ddf1a0843477"),
+    (&[(0, "", 0, 0), (1, "", 0, 0), (2, "", 0, 0)], "fb358ecb4212e66772b481d57ef1dbb21298e0e5ad6ec4e22f3426b5078d5e9c"),
+    (&[(2, "a", b'w', 1)], "2b9bc7e622c6ba151fc1834e2d9ff9c5f69f7050e0e1a8d669f603a20b1c93fb"),
+];
+
+/// Stages a row. Answers whether no call failed.
+fn stages(
+    store: &mut BookStore,
+    disk: &mut MemoryDisk,
+    text: &mut Vec<u8>,
+    row: Row,
+) -> Result<bool, AllocError> {
+    let (place, name, letter, count) = row;
+    let Some(name) = Name::new(name.as_bytes()) else {
+        store.stage_empty(place);
+        return Ok(true);
+    };
+    text.clear();
+    text.push(b'T')?;
+    text.resize(1 + count, letter)?;
+    text.resize((count / PAGE + 1) * PAGE, 0)?;
+    Ok(store.stage(disk, place, name, text, 1 + count).is_ok())
+}
+
+/// Makes the rows of an event what they are to be. Answers whether no call failed.
+fn makes(
+    alloc: Global,
+    store: &mut BookStore,
+    disk: &mut MemoryDisk,
+    rows: &[Row],
+) -> Result<bool, AllocError> {
+    let mut text = Vec::with_capacity(alloc, PAGE * ROW_MOST as usize)?;
+    for row in rows {
+        if !stages(store, disk, &mut text, *row)? {
+            return Ok(false);
+        }
+    }
+    Ok(store.commit(disk).is_ok() && store.retire(disk).is_ok())
+}
+
+/// Whether a whole disk has this digest.
+fn has_digest(
+    alloc: Global,
+    disk: &mut MemoryDisk,
+    size: u64,
+    sha256: &str,
+) -> Result<bool, AllocError> {
+    let mut bytes = vec![in alloc; 0; size as usize]?;
+    Ok(disk.read(0, &mut bytes).is_ok() && is_digest(alloc, &bytes, sha256)?)
+}
+
+/// Whether a store has the rows of an event, and its readers have read just what it has.
+fn has_rows(store: &BookStore, readers: &[Option<Reader>], rows: &[Row]) -> bool {
+    for (row, reader) in readers.iter().enumerate() {
+        let len = match reader {
+            Some(reader) => reader.len,
+            None => 0,
+        };
+        if len != store.content(row).len() || store.name(row).is_some() != reader.is_some() {
+            return false;
+        }
+    }
+    rows.iter().all(|row| {
+        let (place, name, letter, count) = *row;
+        let content = store.content(place);
+        if name == "" {
+            return content.is_empty();
+        }
+        store.name(place) == Some(name)
+            && content.len() == 1 + count
+            && content[1..].iter().all(|byte| *byte == letter)
+    })
+}
+
+/// Whether a book can be opened before each of the first events, and the event leaves its disk.
+fn goes_on(alloc: Global, disk: &mut MemoryDisk, count: usize) -> Result<bool, AllocError> {
+    let size = BOOK_START + 3 * ROW_SIZE;
+    let mut before: &[Row] = &[];
+    for (rows, sha256) in &EVENTS[..count] {
+        let Ok((mut store, readers)) = BookStore::open::<Reader, MemoryDisk>(alloc, disk, 3) else {
+            return Ok(false);
+        };
+        if readers.len() != 32
+            || !has_rows(&store, &readers, before)
+            || !makes(alloc, &mut store, disk, rows)?
+            || !has_digest(alloc, disk, size, sha256)?
+        {
+            return Ok(false);
+        }
+        before = rows;
+    }
+    Ok(true)
+}
+
+/// What opening comes to: so many rows are present, or why it is refused.
+fn opened(alloc: Global, disk: &mut MemoryDisk, rows: u32) -> Result<usize, BookOpenError> {
+    let (store, _readers) = BookStore::open::<Reader, MemoryDisk>(alloc, disk, rows)?;
+    Ok((0..32).filter(|row| store.name(*row).is_some()).count())
+}
+
+/// The disk after five events, with these bytes at their places, opened: whether it comes to this,
+/// and leaves a disk of this digest, if one is given.
+fn comes_to(
+    alloc: Global,
+    changes: &[(u64, &str)],
+    rows: u32,
+    expected: Result<usize, BookOpenError>,
+    sha256: &str,
+) -> Result<bool, AllocError> {
+    let size = BOOK_START + 4 * ROW_SIZE;
+    let mut disk = MemoryDisk::new(alloc, size)?;
+    let mut store = BookStore::new(alloc, 3)?;
+    for (rows, _sha256) in &EVENTS[..5] {
+        if !makes(alloc, &mut store, &mut disk, rows)? {
+            return Ok(false);
+        }
+    }
+    for (place, new) in changes {
+        match decode(alloc, new) {
+            Ok(bytes) => {
+                if disk.write_at(*place, &bytes).is_err() {
+                    return Ok(false);
+                }
+            }
+            Err(_) => return Ok(false),
+        }
+    }
+    let answer = opened(alloc, &mut disk, rows);
+    Ok(answer == expected
+        && (sha256 == "" || has_digest(alloc, &mut disk, BOOK_START + 3 * ROW_SIZE, sha256)?))
+}
+
+const KEPT: &str = "9449f4a4f8c9043f4b948758907c7c6f65af1ef0cd6ccddb91d40909e1aec456";
+const ZEROS: &str = "1ae9e790e465ff82d407fc8a58a9211354db93ce238ff8179ae87a2c22b7ab62";
+
+fn table(table: u32, at: u64) -> Result<usize, BookOpenError> {
+    Err(BookOpenError::DamagedTable { table, at })
+}
+
+fn row(row: u32, at: u64) -> Result<usize, BookOpenError> {
+    Err(BookOpenError::DamagedRow { row, at })
+}
+
+#[test]
+fn books_are_opened_again(rt: HostRuntime) -> Result<(), Fail> {
+    let mut disk = MemoryDisk::new(rt.alloc(), BOOK_START + 3 * ROW_SIZE)?;
+    assert!(rt; goes_on(rt.alloc(), &mut disk, 9)?);
+    Ok(())
+}
+
+// Table 0 is open with turn 2. Row 0 has the pages 1 and 2, row 2 the pages 0, 2 and 3.
+#[test]
+fn what_does_not_count_is_wiped(rt: HostRuntime) -> Result<(), Fail> {
+    let rows: [(&[(u64, &str)], usize, &str); 11] = [
+        (&[], 2, KEPT),
+        (&[(20_480, "a501")], 2, KEPT),
+        (&[(20_480, "a500")], 2, KEPT),
+        (&[(20_480, "a504")], 2, KEPT),
+        (&[(20_480, "0107")], 2, KEPT),
+        (&[(20_482, "ff"), (40_959, "ff")], 2, KEPT),
+        (&[(1_638_400, "01")], 2, KEPT),
+        (&[(65_536, "ff"), (4_780_032, "ff")], 2, KEPT),
+        (&[(0, "00")], 0, ZEROS),
+        (&[(0, "a400")], 0, ZEROS),
+        (&[(1, "00")], 0, ZEROS),
+    ];
+    for (changes, count, sha256) in rows {
+        assert!(rt; comes_to(rt.alloc(), changes, 3, Ok(count), sha256)?);
+    }
+    Ok(())
+}
+
+#[test]
+fn damage_is_told(rt: HostRuntime) -> Result<(), Fail> {
+    let rows: [(&[(u64, &str)], Result<usize, BookOpenError>); 14] = [
+        (&[(20_480, "a502")], table(1, 1)),
+        (&[(20_480, "a502"), (2, "01")], table(1, 1)),
+        (&[(20_480, "a503"), (20_482, "01")], table(1, 2)),
+        (&[(2, "01")], table(0, 2)),
+        (&[(512, "02")], table(0, 512)),
+        (&[(1537, "0161")], table(0, 1538)),
+        (&[(558, "0180")], table(0, 558)),
+        (&[(69_632, "00")], row(0, 4096)),
+        (&[(3_211_264, "00")], row(2, 4096)),
+        (&[(3_211_264, "00"), (69_632, "00")], row(0, 4096)),
+        (&[(3_227_361, "01")], row(2, 16_097)),
+        (&[(554, "00001fff")], row(0, 12_287)),
+        (&[(3_211_264, "00"), (20_479, "01")], table(0, 20_479)),
+        (&[(558, "017f")], row(0, 4096)),
+    ];
+    for (changes, expected) in rows {
+        assert!(rt; comes_to(rt.alloc(), changes, 3, expected, "")?);
+    }
+    Ok(())
+}
+
+#[test]
+fn as_many_rows_as_there_are(rt: HostRuntime) -> Result<(), Fail> {
+    assert!(rt; comes_to(rt.alloc(), &[], 2, table(0, 1536), KEPT)?);
+    assert!(rt; comes_to(rt.alloc(), &[], 4, Ok(2), KEPT)?);
+    Ok(())
+}
