@@ -1,4 +1,4 @@
-mod Names
+pub mod Names
 mod Stepping
 mod Fanning
 pub mod Running

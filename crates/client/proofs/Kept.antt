@@ -41,11 +41,11 @@ module _ {S X : Type 0} (keeping : Keeping S) (state : X → DiskState) (answer 
   }
 
   pub lost_act : (call : Call) → keeping.closed new ≡ Some call
-      → keeping.kept new ≡ keeping.kept old
+      → keeping.kept new ≡ keeping.kept old → keeping.place new ≡ keeping.place old
       → IsLostInCell (cell_of keeping old) (keeping.kept old) next call (state start) (state now)
       → ((state start).fate ≡ all_pass → ⊥)
       → IsKeeperAct keeping state (Ok (step answer next)) old new start now (faulted call)
-  lost_act call closes keeps lost fails = record {
+  lost_act call closes keeps stays lost fails = record {
     exact = record {
       next = step answer next;
       made_is = refl;
@@ -53,6 +53,7 @@ module _ {S X : Type 0} (keeping : Keeping S) (state : X → DiskState) (answer 
       was_open = unclosed;
       closes = closes;
       keeps = keeps;
+      stays = stays;
       disk = lost;
     };
     fate = λ all. absurd (fails all);

@@ -12,6 +12,8 @@ pub record Keeping (S : Type 0) : Type 1 where
   pub kept : S → Client
   -- the call on the disk that closed it
   pub closed : S → Option Call
+  -- it keeps a session: one that may be without says no more of what it keeps then
+  pub there : S → Type 0
   -- which place it has, and what lies there. No act changes that.
   pub Place : Type 0
   pub place : S → Place
@@ -42,6 +44,7 @@ abbrev pub client_keeping : Keeping ClientNow
 client_keeping = record {
   kept = λ client. client.kept;
   closed = λ client. client.closed;
+  there = λ client. Unit {0};
   Place = Unit {0};
   place = λ client. tt;
   cell = λ place. client_cell;

@@ -126,7 +126,8 @@ IsKeeperIdle keeping made old new start now answer =
     (made ≡ Ok (step answer (keeping.kept new))) × (keeping.closed old ≡ None) × (new ≡ old)
     × (now ≡ start)
 
--- a call on the disk failed in a step with an effect: the keeper is closed, and keeps what it kept
+-- a call on the disk failed in a step with an effect: the keeper is closed, and keeps what it kept,
+-- where it kept it
 pub record IsKeeperCutOff {S : Type 0} (keeping : Keeping S) (made : Result (Step Client) Refusal)
     (old new : S) (start now : DiskState) (call : Call) : Type 0 where
   pub next : Step Client
@@ -135,6 +136,7 @@ pub record IsKeeperCutOff {S : Type 0} (keeping : Keeping S) (made : Result (Ste
   pub was_open : keeping.closed old ≡ None
   pub closes : keeping.closed new ≡ Some call
   pub keeps : keeping.kept new ≡ keeping.kept old
+  pub stays : keeping.place new ≡ keeping.place old
   pub disk : IsLostInCell (cell_of keeping old) (keeping.kept old) next.next call start now
 
 abbrev pub IsKeeperEffected : {S X : Type 0} → Keeping S → (X → DiskState) → Bool

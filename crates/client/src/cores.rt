@@ -1,7 +1,7 @@
 //! A side of a conversation in memory, and the drafts of its steps.
 
 pub use drafts::Draft;
-pub(crate) use reading::RecordReader;
+pub use reading::RecordReader;
 pub use showing::Core;
 
 mod accepting;

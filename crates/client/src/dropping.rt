@@ -126,6 +126,7 @@ pub(crate) fn drop_exact<K: Kem, Q: Keeper<K>, D: Disk>(
     if let Some(call) = keeper.closed() {
         return Err(DropRefusal::Closed { call });
     }
+    keeper.is_there(disk);
     match keeper.core().drop_check(items, n) {
         Err(fewer) => Err(DropRefusal::Fewer { held: fewer.held }),
         Ok(()) => {

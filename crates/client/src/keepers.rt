@@ -24,6 +24,7 @@ pub trait Keeper<K: Kem> {
 
     /// The core that it keeps.
     fn core(&self) -> &Core<K>
+        requires { keeping.there self.now }
         ensures { result.now ≡ keeping.kept self.now };
 
     /// The call on the disk that closed it.
@@ -37,7 +38,8 @@ pub trait Keeper<K: Kem> {
         seed: Option<Key32>,
         room: &'a mut PacketRoom,
     ) -> Result<SendDraft<'a, K>, NoPairFor>
-        requires { say_check (keeping.kept self.old) (length text.now) ≡ Ok (is_some seed) }
+        requires there { keeping.there self.old }
+        requires checked { say_check (keeping.kept self.old) (length text.now) ≡ Ok (is_some seed) }
         ensures exact { say_on K.mechanism (keeping.kept self.old) text.now (seed_bytes seed)
             ≡ accept_send (keeping.kept self.old) (said_if (keeping.kept self.old).state result) }
         ensures draft { IfOk result (IsSaidOf K.mechanism (keeping.kept self.old)) }
@@ -50,6 +52,7 @@ pub trait Keeper<K: Kem> {
         packet: &[u8],
         room: &'a mut OpeningRoom,
     ) -> Result<ReceiveDraft<'a, K>, Refusal>
+        requires { keeping.there self.old }
         ensures exact { DraftsFor K.mechanism (keeping.kept self.old) packet.now result }
         ensures draft { IfOk result (IsReceivedOf K.mechanism (keeping.kept self.old)) }
         ensures same { self.new ≡ self.old };
@@ -69,6 +72,11 @@ pub trait Keeper<K: Kem> {
         ensures { IfSome draft.old (λ d.
             IsKeeperAct keeping D.state (Ok (drafted_step (keeping.kept self.old) d))
             self.old self.new disk.old disk.new (kept_as (drafted_answer d) result)) };
+
+    /// Where a disk is at rest for what is kept, a session is kept. It has no code.
+    fn is_there<D: Disk>(&self, disk: &D)
+        requires { keeping.ready self.now (D.state disk.now) }
+        ensures { keeping.there self.now };
 
     /// A disk at rest for what is kept has its record in each image. It has no code.
     fn holds<D: Disk>()

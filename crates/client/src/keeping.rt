@@ -99,6 +99,11 @@ impl<K: Kem> Keeper<K> for Client<K> {
         }
     }
 
+    fn is_there<D: Disk>(&self, disk: &D)
+        requires { client_keeping.ready self.now (D.state disk.now) }
+        ensures { client_keeping.there self.now }
+    {}
+
     fn holds<D: Disk>()
         ensures { (disk : D) → HoldsKept client_keeping (D.state disk) }
     {

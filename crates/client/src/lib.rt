@@ -29,7 +29,7 @@
 
 pub use begin::Begin;
 pub use client::{AREA_SIZE, Client};
-pub use cores::{Core, Draft};
+pub use cores::{Core, Draft, RecordReader};
 pub use dropping::drop_items;
 pub use keepers::Keeper;
 pub use looking::look;

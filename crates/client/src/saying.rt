@@ -120,6 +120,7 @@ fn say_exact<K: Kem, Q: Keeper<K>, D: Disk, W: Draws>(
     if let Some(call) = keeper.closed() {
         return Err(SayRefusal::Closed { call });
     }
+    keeper.is_there(disk);
     match keeper.core().say_check(text.len()) {
         Err(refusal) => Err(SayRefusal::Refused(refusal)),
         Ok(false) => speak::<K, Q, D>(keeper, disk, text, None),
@@ -149,6 +150,7 @@ fn speak<K: Kem, Q: Keeper<K>, D: Disk>(
     ensures seed { HandsBack seed result }
 {
     let mut room = PacketRoom::new();
+    keeper.is_there(disk);
     match keeper.draft_say(text, seed, &mut room) {
         Err(none) => Err(SayRefusal::NoPair { seed: none.seed }),
         Ok(draft) => {

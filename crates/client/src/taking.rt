@@ -118,6 +118,7 @@ pub(crate) fn take_exact<K: Kem, Q: Keeper<K>, D: Disk>(
         return Err(TakeRefusal::Closed { call });
     }
     let mut room = OpeningRoom::new();
+    keeper.is_there(disk);
     let drafted = keeper.draft_take(packet, &mut room);
     take_drafted::<K, Q, D>(keeper, disk, drafted)
 }

@@ -19,7 +19,7 @@ use std::alloc::{AllocError, Global};
 /// A reader of a client's record: the memory of a core, whose boxes are filled, and the session
 /// once one was read.
 #[derive(Drop)]
-pub(crate) struct RecordReader<K: Kem> {
+pub struct RecordReader<K: Kem> {
     pub(crate) room: CoreRoom<K>,
     pub(crate) session: Option<Session<K>>,
 }
@@ -54,7 +54,7 @@ impl<K: Kem> Grammar for RecordReader<K> {
 
 impl<K: Kem> RecordReader<K> {
     /// Takes its memory. It has read nothing.
-    pub(crate) fn new(alloc: Global) -> Result<RecordReader<K>, AllocError>
+    pub fn new(alloc: Global) -> Result<RecordReader<K>, AllocError>
         ensures { IfOk result (λ r. HasReadNothing r.session r.room.inbox r.room.outbox) }
     {
         let room = CoreRoom::new(alloc)?;
@@ -65,7 +65,7 @@ impl<K: Kem> RecordReader<K> {
     }
 
     /// The core that was read.
-    pub(crate) fn into_core(self) -> Core<K>
+    pub fn into_core(self) -> Core<K>
         requires some { is_some self.session ≡ true }
         requires lawful { (s : State) → self.session ≡ Some s
             → IsLawfulClient K.mechanism (client_of s self.room.inbox self.room.outbox) }

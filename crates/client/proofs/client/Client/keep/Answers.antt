@@ -40,7 +40,7 @@ returns-in-Err g c =
     subst (λ (n : ClientNow). IsAct state (Ok (drafted_step n.kept c.args.draft)) n new c.args.disk.now c.replace.new.disk
     (kept_as (drafted_answer c.args.draft) (Err c.in-Err.fault.call))) c.self.view_is
     (lost_act client_keeping state (drafted_answer c.args.draft) (drafted_client client.kept c.args.draft) client new c.args.disk.now c.replace.new.disk
-    c.requires.effect opened.0 c.in-Err.fault.call refl refl
+    c.requires.effect opened.0 c.in-Err.fault.call refl refl refl
     (lost client.kept (drafted_client client.kept c.args.draft) client.store _ start (state c.replace.new.disk) opened.1 written
     c.in-Err.fault.call c.replace.ensures.replaces.any_moment c.replace.ensures.replaces.reads c.in-Err.ensures.replaces.stopped
     c.in-Err.ensures.calls.few c.in-Err.ensures.kind c.in-Err.ensures.calls.went.ended c.in-Err.ensures.calls.went.fault)
