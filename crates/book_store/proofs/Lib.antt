@@ -8,7 +8,7 @@ mod Bodies
 mod Staged
 mod Tabled
 mod ShownRows
-mod Composed
+pub mod Composed
 mod Absent
 mod Taken
 mod Faultless

@@ -14,8 +14,9 @@ pub use layout::{
     TABLE_ROW, limits_in_numbers,
 };
 pub use paged_records::Grammar;
+pub use record::row_bounds;
 pub use row_grammar::RowGrammar;
-pub use store::BookStore;
+pub use store::{BookStore, words};
 
 mod changing;
 mod desk;

@@ -23,7 +23,7 @@ use dr_disk::{Call, Disk};
 use paged_records::{Bounds, Draft, Kept, replan};
 
 /// Which of its pages a row's record may have.
-pub(crate) fn row_bounds() -> Bounds
+pub fn row_bounds() -> Bounds
     ensures { result ≡ row_bounds }
 {
     Bounds {

@@ -55,7 +55,7 @@ impl Model for BookStore {
 }
 
 /// A name, as text.
-fn words(name: &Name) -> &str
+pub fn words(name: &Name) -> &str
     ensures { result.now ≡ name.now }
 {
     match str::from_utf8(name.bytes()) {
