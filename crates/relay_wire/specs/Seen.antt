@@ -1,15 +1,18 @@
 -- What the values of the code stand for.
-use Rattle.std.specs.Prelude.{◌≡◌, ⊤, ℕ, ◌+◌, List, length, Result, Ok, Err}
+use Rattle.std.specs.Prelude.{◌≡◌, ⊤, ℕ, ◌+◌, List, length, Option, Some, None, option_map, Result, Ok, Err}
+use Rattle.relay_guard.specs.Seen.{token_seen}
+use Rattle.relay_guard.specs.declared.guard.Token.{Token as TokenLent}
 use Rattle.relay_wire.specs.declared.request.Ask.{Ask}
 use Rattle.relay_wire.specs.declared.request.Ask.TheVariants.{Post, Fetch, Ack}
 use Rattle.relay_wire.specs.declared.request.Bad.{Bad}
 use Rattle.relay_wire.specs.declared.request.Request.{Request}
 use Rattle.relay_wire.specs.declared.reply.BadReply.{BadReply}
 use Rattle.relay_wire.specs.declared.reply.Reply.{Reply}
-use Rattle.relay_wire.specs.declared.reply.Reply.TheVariants.{Stored, Item, Empty, Acked, BoxFull, Unknown, Absent, Bad as BadKind}
+use Rattle.relay_wire.specs.declared.reply.Reply.TheVariants.{Stored, Item, Empty, Acked, BoxFull, Unknown, Absent, Bad as BadKind, Denied}
+use Rattle.relay_wire.specs.declared.limits.TheConstants.{TOKEN_LEN}
 use Rattle.relay_wire.specs.Parts.{LiesAt}
 use Rattle.relay_wire.specs.Requests.{Asked, Asking, posts, fetches, acks}
-use Rattle.relay_wire.specs.Replies.{Replied, stored, item, empty, acked, box_full, unknown, absent, bad}
+use Rattle.relay_wire.specs.Replies.{Replied, stored, item, empty, acked, box_full, unknown, absent, bad, denied}
 
 -- what is asked
 abbrev pub asking_of : Ask → Asking
@@ -19,7 +22,12 @@ asking_of (Ack number) = acks number
 
 -- a request
 abbrev pub asked_of : Request → Asked
-asked_of request = record { name = request.name.bytes; ask = asking_of request.ask }
+asked_of request =
+    record {
+      name = request.name.bytes;
+      ask = asking_of request.ask;
+      token = option_map token_seen request.token;
+    }
 
 -- what is replied
 abbrev pub replied_of : Reply → Replied
@@ -31,6 +39,7 @@ replied_of BoxFull = box_full
 replied_of Unknown = unknown
 replied_of (Absent number) = absent number
 replied_of (BadKind kind) = bad kind
+replied_of (Denied refusal) = denied refusal.rule refusal.last
 
 -- ---- what code parsed is what a reader reads
 
@@ -52,6 +61,12 @@ ParsesReply (Err e) read = read ≡ Err e
 abbrev pub IsAskLaid : Ask → ℕ → List ℕ → ℕ → Type 0
 IsAskLaid (Post packet) at bytes place = LiesAt packet at bytes place
 IsAskLaid _ at bytes place = ⊤
+
+-- where the name stands in a request's frame: after the frame's length, a token with the byte that
+-- says so, the first byte and its own length
+abbrev pub name_place : Option TokenLent → ℕ
+name_place None = 4
+name_place (Some token) = 4 + (1 + TOKEN_LEN)
 
 -- the name of a request from an offset on, and right after it the packet
 pub record IsLaid (request : Request) (at : ℕ) (bytes : List ℕ) (place : ℕ) : Type 0 where

@@ -1,12 +1,13 @@
 //! Reading a reply.
 
 ghost use Rattle.std.specs.Prelude.{◌≡◌, ◌^◌, ◌<◌, ◌+◌, ℕ, drop, length, IfOk};
-ghost use Rattle.relay_wire.specs.Replies.{bare, numbered, read_bad, read_item, read_reply, read_reply_rest, stored, absent};
+ghost use Rattle.relay_wire.specs.Replies.{bare, numbered, read_bad, read_denied, read_item, read_reply, read_reply_rest, stored, absent};
 ghost use Rattle.relay_wire.specs.Seen.{IsReplyLaid, ParsesReply, replied_of};
 
 use crate::frame::Frame;
 use crate::packet::Packet;
 use crate::reply::{BadReply, Reply};
+use relay_guard::Denied;
 
 /// The first byte of each reply.
 pub(crate) const STORED: u8 = 0x81;
@@ -24,6 +25,8 @@ pub(crate) const UNKNOWN: u8 = 0x86;
 pub(crate) const ABSENT: u8 = 0x87;
 
 pub(crate) const BAD: u8 = 0x88;
+
+pub(crate) const DENIED: u8 = 0x89;
 
 /// A number, which is all that stands after the first byte.
 fn parse_stored<'a>(rest: &[u8]) -> Result<Reply<'a>, BadReply>
@@ -73,6 +76,26 @@ fn parse_bad<'a>(rest: &[u8]) -> Result<Reply<'a>, BadReply>
     }
 }
 
+/// A rule in one byte and a number, which is all that stands after the first byte.
+fn parse_denied<'a>(rest: &[u8]) -> Result<Reply<'a>, BadReply>
+    ensures reads { ParsesReply result (read_denied rest.now) }
+    ensures laid { (place : ℕ) → IfOk result (λ reply. IsReplyLaid reply 8 rest.now place) }
+{
+    let Some((rule, last)) = rest.split_first() else {
+        return Err(BadReply::Size);
+    };
+    if *rule < 1 || *rule > 3 {
+        return Err(BadReply::Size);
+    }
+    match <&[u8; 8]>::try_from(last) {
+        Ok(bytes) => Ok(Reply::Denied(Denied {
+            rule: *rule,
+            last: u64::from_be_bytes(*bytes),
+        })),
+        Err(_) => Err(BadReply::Size),
+    }
+}
+
 /// A reply after whose first byte nothing stands.
 fn parse_bare<'a>(reply: Reply<'a>, rest: &[u8]) -> Result<Reply<'a>, BadReply>
     ensures reads { ParsesReply result (bare (replied_of reply.entry) rest.now) }
@@ -101,6 +124,7 @@ fn parse_rest(first: u8, rest: &[u8], place: u64) -> Result<Reply<'_>, BadReply>
         UNKNOWN => parse_bare(Reply::Unknown, rest),
         ABSENT => parse_absent(rest),
         BAD => parse_bad(rest),
+        DENIED => parse_denied(rest),
         _ => Err(BadReply::Kind),
     }
 }
