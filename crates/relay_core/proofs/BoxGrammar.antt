@@ -1,27 +1,28 @@
--- The record of a box, both ways.
-use Rattle.std.proofs.Common.{◌≡◌, ℕ, ◌*◌, ◌^◌, ◌<◌, ◌≤◌, true, List, [], ◌++◌, length, get_or, take, refl, ap₂, arith, inl, inr, length-append}
-use Rattle.std.specs.Prelude.{All}
+-- The record of a box in a version, both ways.
+use Rattle.std.proofs.Common.{◌≡◌, ℕ, ◌^◌, ◌<◌, ◌≤◌, Bool, true, false, List, [], length, get_or, take, refl, ap, arith, if◌then◌else◌}
+use Rattle.std.specs.Prelude.{All, ◌==◌}
 use Rattle.std.specs.Int.{w8, w16, w64, to_be_bytes}
 use Rattle.std.proofs.lemmas.Bool.Decides.{nat_tests}
 use Rattle.std.proofs.lemmas.List.Elements.{All-push}
 use Rattle.std.proofs.lemmas.Bool.{and_parts}
-use Rattle.grammar.specs.Printer.{AreItems, no_items, and_item, HasRoom, print_items}
+use Rattle.grammar.specs.Printer.{AreItems, no_items, and_item}
 use Rattle.grammar.specs.Grammar.{IsGrammar, IsWholeGrammar}
+use Rattle.grammar.specs.Reader.{mapped}
 use Rattle.grammar.proofs.Combined.{both_grammar, checked_grammar, mapped_grammar}
 use Rattle.grammar.proofs.Fields.{number_grammar}
 use Rattle.dr_base.proofs.Widths.{exact8, exact16, exact64}
-use Rattle.grammar.proofs.Printing.{size-items}
 use Rattle.grammar.proofs.Lists.{items_grammar, items-from, length-items, sized_grammar}
 use Rattle.grammar.proofs.Whole.{whole_grammar}
-use Rattle.relay_core.specs.declared.limits.TheConstants.{BOX_LIMIT, BOX_ITEM_LIMIT, RECORD_LIMIT}
+use Rattle.relay_core.specs.declared.limits.TheConstants.{BOX_LIMIT}
 use Rattle.relay_core.specs.Boxes.{Kept, Box}
 use Rattle.relay_core.specs.Lawful.{Rises, last_number, IsLawfulBox}
-use Rattle.relay_core.specs.Record.{HeadParts, is_name_size, is_count, name_field, head_fields, is_kept_number, is_packet_size, packet_field, kept_packet_of, kept_packet_field, next_kept, box_of_parts, box_fields, box_read, head_text, kept_packet_text, box_text}
-use Rattle.relay_core.specs.Versions.{is_version, newest, version_at, version_code, version_field}
+use Rattle.relay_core.specs.Record.{HeadParts, Saved, count_in, guard_in, is_name_size, is_count, last_in, name_field, name_in, head_fields, is_kept_number, is_packet_size, packet_field, kept_packet_of, kept_packet_field, next_kept, record_parts, saved_of_parts, saved_read, saved_text, kept_packet_text, version_in}
+use Rattle.relay_core.specs.Saved.{IsLawfulSaved}
+use Rattle.relay_core.specs.Versions.{is_version, version_at, version_code, version_field}
 use Rattle.relay_core.specs.declared.versions.Version.{Version}
-use Rattle.relay_core.specs.declared.versions.Version.TheVariants.{One}
+use Rattle.relay_core.specs.declared.versions.Version.TheVariants.{One, Two}
+use Rattle.relay_core.proofs.GuardGrammar.{IsGuardOf, guard_grammar}
 use Rattle.relay_core.proofs.Rising.{rises-append, rises-at}
-use Rattle.relay_wire.specs.declared.limits.TheConstants.{NAME_LIMIT, PACKET_LIMIT}
 use Rattle.relay_wire.specs.Names.{is_name, is_packet}
 
 -- ---- lengths after which names and packets stand
@@ -90,14 +91,20 @@ items_of box lawful =
 
 -- ---- the record
 
-parts_of : Box → HeadParts × List Kept
-parts_of box = ((newest, (box.name, (box.last, length box.packets))), box.packets)
+parts_of : Saved → HeadParts × List Kept
+parts_of s =
+    ((s.version, (s.box.name, (s.box.guard, (s.box.last, length s.box.packets)))), s.box.packets)
 
 version_lawful : (n : ℕ) → is_version n ≡ true → version_code (version_at n) ≡ n
-version_lawful n passes = grind (arith, nat_tests)
+version_lawful n passes = by_test (n == 1) refl
+  where
+    by_test : (one : Bool) → (n == 1) ≡ one → version_code (if one then One else Two) ≡ n
+    by_test true is = grind (arith, nat_tests)
+    by_test false is = grind (arith, nat_tests)
 
 code_lawful : (version : Version) → ((version_code version < 2 ^ 8) × (is_version (version_code version) ≡ true)) × (version_at (version_code version) ≡ version)
 code_lawful One = ((omega arith, refl), refl)
+code_lawful Two = ((omega arith, refl), refl)
 
 version_grammar : IsGrammar (λ version. to_be_bytes w8 (version_code version)) (λ version. Unit {0}) version_field
 unfolding version_field
@@ -105,78 +112,48 @@ version_grammar =
     mapped_grammar (to_be_bytes w8) _ _ (checked_grammar _ _ _ (number_grammar w8 (2 ^ 8) exact8) is_version) (λ version. Unit {0}) version_at version_code
     (λ n lawful. (tt, version_lawful n lawful.1)) (λ version lawful. code_lawful version)
 
-is_newest : (version : Version) → newest ≡ version
-is_newest One = refl
-
 few : (n m : ℕ) → n ≡ m → is_count m ≡ true → n ≤ BOX_LIMIT
 few n m same passes = grind (arith, nat_tests)
 
 counted : (n : ℕ) → n ≤ BOX_LIMIT → (n < 2 ^ 8) × (is_count n ≡ true)
 counted n small = (omega (arith, small), grind (arith, nat_tests))
 
-pub box_grammar : IsGrammar box_text IsLawfulBox box_fields
-unfolding box_fields head_fields name_field box_text parts_of
-box_grammar =
+saved_grammar : IsGrammar saved_text IsLawfulSaved (mapped saved_of_parts record_parts)
+unfolding head_fields name_field saved_text parts_of
+saved_grammar =
     mapped_grammar _ _ _
     (both_grammar _ _ _ _ _ _
-    (both_grammar _ _ _ _ _ _ version_grammar (λ _ _.
+    (both_grammar _ _ _ _ _ _ version_grammar (λ version _.
     both_grammar _ _ _ _ _ _ (sized_grammar w8 (2 ^ 8) exact8 is_name_size is_name) (λ _ _.
+    both_grammar _ _ _ _ _ _ (guard_grammar version) (λ _ _.
     both_grammar _ _ _ _ _ _ (number_grammar w64 (2 ^ 64) exact64) (λ _ _.
-    checked_grammar _ _ _ (number_grammar w8 (2 ^ 8) exact8) is_count))))
-    (λ h _. items_grammar kept_packet_text (IsNext h.1.1.0) (next_kept h.1.1.0) (kept_grammar h.1.1.0) h.1.1.1))
-    IsLawfulBox box_of_parts parts_of
+    checked_grammar _ _ _ (number_grammar w8 (2 ^ 8) exact8) is_count)))))
+    (λ h _. items_grammar kept_packet_text (IsNext (last_in h)) (next_kept (last_in h)) (kept_grammar (last_in h)) (count_in h)))
+    IsLawfulSaved saved_of_parts parts_of
     (λ e lawful.
-    let long = length-items (IsNext e.0.1.1.0) e.0.1.1.1 e.1 lawful.1 in
-    let rise = items_rise e.0.1.1.0 e.0.1.1.1 e.1 lawful.1 in (
+    let long = length-items (IsNext (last_in e.0)) (count_in e.0) e.1 lawful.1 in
+    let rise = items_rise (last_in e.0) (count_in e.0) e.1 lawful.1 in
+    let guard = lawful.0.1.1.0 in (
       record {
-        named = lawful.0.1.0.1;
-        numbered = lawful.0.1.1.0;
-        count = few (length e.1) e.0.1.1.1 long lawful.0.1.1.1.1;
-        rises = rise.0;
-        packets = rise.1;
+        box = record {
+          named = lawful.0.1.0.1;
+          numbered = lawful.0.1.1.1.0;
+          count = few (length e.1) (count_in e.0) long lawful.0.1.1.1.1.1;
+          rises = rise.0;
+          packets = rise.1;
+          guard = guard.lawful;
+        };
+        guard = guard.allowed;
       },
-      ap₂ (λ (v : Version) (n : ℕ). ((v, (e.0.1.0, (e.0.1.1.0, n))), e.1)) (is_newest e.0.0) long,
+      ap (λ (n : ℕ). ((version_in e.0, (name_in e.0, (guard_in e.0, (last_in e.0, n)))), e.1)) long,
     ))
-    (λ box lawful.
-    let count = counted (length box.packets) lawful.count in
-    (((tt, ((short_name box.name lawful.named, lawful.named), (lawful.numbered, count))), items_of box lawful), refl))
+    (λ s lawful.
+    let box = s.box in
+    let is = lawful.box in
+    let count = counted (length box.packets) is.count in
+    let guard : IsGuardOf s.version box.guard = record { lawful = is.guard; allowed = lawful.guard } in
+    (((tt, ((short_name box.name is.named, is.named), (guard, (is.numbered, count)))), items_of box is), refl))
 
-pub record_grammar : IsWholeGrammar box_text IsLawfulBox box_read
-unfolding box_read
-record_grammar = whole_grammar box_text IsLawfulBox box_fields box_grammar
-
--- ---- sizes
-
-short_kept : (packet : List ℕ) → is_packet packet ≡ true → length packet ≤ PACKET_LIMIT
-unfolding is_packet
-short_kept packet is = most (length packet) is
-  where
-    most : (n : ℕ) → is_packet_size n ≡ true → n ≤ PACKET_LIMIT
-    most n passes = grind (arith, nat_tests)
-
-short_box_name : (name : List ℕ) → is_name name ≡ true → length name ≤ NAME_LIMIT
-unfolding is_name
-short_box_name name is = most (length name) (and_parts _ _ is).0
-  where
-    most : (n : ℕ) → is_name_size n ≡ true → n ≤ NAME_LIMIT
-    most n passes = grind (arith, nat_tests)
-
-packets_size : (list : List Kept) → All (λ (k : Kept). is_packet k.packet ≡ true) list
-    → length (print_items kept_packet_text list) ≤ BOX_ITEM_LIMIT * length list
-packets_size list are =
-    size-items kept_packet_text BOX_ITEM_LIMIT list (λ k d inside. omega (arith, short_kept (get_or list k d).packet (are k d inside)))
-
-pub record_size : (box : Box) → IsLawfulBox box → length (box_text box) ≤ RECORD_LIMIT
-unfolding box_text
-record_size box lawful =
-    let name = short_box_name box.name lawful.named in
-    let packets = packets_size box.packets lawful.packets in
-    let count = lawful.count in
-    let head = head_text newest box.name box.last (length box.packets) in
-    let behind_name = to_be_bytes w64 box.last ++ to_be_bytes w8 (length box.packets) in
-    omega (arith, name, packets, count, length-append head (print_items kept_packet_text box.packets), length-append box.name behind_name)
-
--- a buffer that has room for a lawful box's record holds it
-pub record_fits : (box : Box) (room : ℕ) → IsLawfulBox box → HasRoom RECORD_LIMIT (box_text box) room → length (box_text box) ≤ room
-record_fits box room lawful (inl fits) = fits
-record_fits box room lawful (inr fits) = omega (arith, fits, record_size box lawful)
+pub record_grammar : IsWholeGrammar saved_text IsLawfulSaved saved_read
+unfolding saved_read
+record_grammar = whole_grammar saved_text IsLawfulSaved (mapped saved_of_parts record_parts) saved_grammar

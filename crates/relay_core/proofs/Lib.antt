@@ -5,7 +5,15 @@ pub mod Changed
 pub mod InRooms
 pub mod Rising
 pub mod Numbered
+pub mod GuardGrammar
 pub mod BoxGrammar
+pub mod RecordLaw
+pub mod Sizes
 pub mod TakenBoxes
+pub mod Judged
+pub mod Unguarded
+pub mod KeptKeys
 pub mod Lawfully
 pub mod Served
+pub mod Counted
+mod Witness

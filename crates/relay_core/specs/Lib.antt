@@ -1,10 +1,14 @@
+pub mod Specs
 pub mod Boxes
 pub mod Alone
 pub mod Lawful
-pub mod Specs
 pub mod Versions
+pub mod GuardFields
 pub mod Record
+pub mod Saved
 pub mod Streams
+pub mod Counters
+pub mod Witness
 pub mod Changes
 pub mod Loading
 pub mod Limits

@@ -6,7 +6,7 @@ use Rattle.relay_core.specs.Boxes.{Box, answers_read, box_of}
 use Rattle.relay_core.specs.Alone.{replies_alone, box_after}
 use Rattle.relay_wire.specs.Frames.{frames_of, framed}
 use Rattle.relay_wire.specs.Replies.{Replied, reply_body}
-use Rattle.relay_wire.specs.Requests.{Asking, Asked, read_request}
+use Rattle.relay_wire.specs.Requests.{Asked, read_request}
 
 -- a frame that was answered: what it asks, and the reply
 pub record Exchange : Type 0 where
@@ -66,26 +66,26 @@ reply_bytes served = flat_map reply_frame served.exchanges
 
 -- a request for the box that was answered, and the reply
 pub record BoxExchange : Type 0 where
-  pub ask : Asking
+  pub asked : Asked
   pub reply : Replied
 
 abbrev pub told_of : List ℕ → Replied → Result Asked ℕ → List BoxExchange
 told_of name reply (Ok asked) =
-    if bytes_eq asked.name name then record { ask = asked.ask; reply = reply } ∷ [] else []
+    if bytes_eq asked.name name then record { asked = asked; reply = reply } ∷ [] else []
 told_of name reply (Err kind) = []
 
 -- the requests for the box of a name that were answered, in order
 abbrev pub told : List ℕ → List Exchange → List BoxExchange
 told name exchanges = flat_map (λ e. told_of name e.reply e.asked) exchanges
 
-abbrev pub asks : List BoxExchange → List Asking
-asks list = map (λ t. t.ask) list
+abbrev pub asks : List BoxExchange → List Asked
+asks list = map (λ t. t.asked) list
 
 abbrev pub replies : List BoxExchange → List Replied
 replies list = map (λ t. t.reply) list
 
--- The box by itself gives the same replies to the requests for it, and is then what they alone make of it: no other box
--- counts, nor any other request, nor the order between them.
+-- The box by itself gives the same replies to the requests for it, and is then what they alone make
+-- of it: no other box counts, nor any other request, nor the order between them.
 pub record IsIsolated (name : List ℕ) (boxes : List Box) (served : Served) : Type 0 where
   pub replied : replies (told name served.exchanges) ≡ replies_alone (box_of name boxes) (asks (told name served.exchanges))
   pub next : box_of name served.next ≡ box_after (box_of name boxes) (asks (told name served.exchanges))

@@ -6,6 +6,7 @@ ghost use Rattle.grammar.specs.Standing.{Reads};
 ghost use Rattle.relay_core.specs.declared.limits.TheConstants.{BOX_LIMIT};
 ghost use Rattle.relay_core.specs.Record.{box_read, next_kept};
 
+use crate::guarding::has_same_keys;
 use crate::mailbox::Mailbox;
 use crate::reading::{read_head, read_kept};
 use crate::relay::Relay;
@@ -19,6 +20,9 @@ pub enum Loaded {
     Taken,
     /// The record has another name than the box, which is as it was.
     OtherName,
+    /// The record has the name of the box and another guard: other keys, or a guard where the box
+    /// has none, or none where it has one. The box is as it was.
+    OtherKeys,
 }
 
 /// Takes this many packets, with numbers up to `last`.
@@ -45,7 +49,7 @@ fn take_packets(
 impl Mailbox {
     ghost use Rattle.relay_core.specs.Loading.{LoadsBox};
 
-    /// Becomes the box of a record, where that has its name.
+    /// Becomes the box of a record, where that has its name and its keys.
     #[tactic(auto, unfolding(crate::specs::Record::box_read, crate::specs::Record::box_fields))]
     fn load(&mut self, text: &[u8]) -> Loaded
         requires { IsOk (box_read text.now) }
@@ -58,11 +62,15 @@ impl Mailbox {
         if head.name != self.name.bytes() {
             return Loaded::OtherName;
         }
+        if !has_same_keys(&head.guard, &self.guard) {
+            return Loaded::OtherKeys;
+        }
         self.packets.clear();
         let Ok(()) = take_packets(&mut self.packets, &mut cursor, head.last, head.count) else {
             unreachable!();
         };
         self.last = head.last;
+        self.guard = head.guard;
         Loaded::Taken
     }
 }
@@ -70,8 +78,8 @@ impl Mailbox {
 impl Relay {
     ghost use Rattle.relay_core.specs.Loading.{Loads};
 
-    /// Takes the box at a place from a record that `check_box` accepts; nothing changes where that
-    /// has another name.
+    /// Takes the box at a place from a record that `check_box` accepts, counters and all. Nothing
+    /// changes where the record has another name, or other keys.
     pub fn load(&mut self, place: usize, text: &[u8]) -> Loaded
         requires inside { place < length self.old }
         requires record { IsOk (box_read text.now) }

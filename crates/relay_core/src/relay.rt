@@ -4,7 +4,6 @@ ghost use Rattle.std.specs.Prelude.{◌≡◌, ◌≤◌, length, map, All, IfOk
 ghost use Rattle.dr_base.specs.Buffer.{Puts};
 ghost use Rattle.relay_core.specs.Boxes.{IsPlaced, answers_of, empty_box};
 ghost use Rattle.relay_core.specs.Lawful.{IsLawfulBox};
-ghost use Rattle.relay_core.specs.Specs.{names_of};
 ghost use Rattle.relay_wire.specs.Frames.{framed};
 ghost use Rattle.relay_wire.specs.Replies.{reply_body};
 ghost use Rattle.relay_wire.specs.Seen.{asked_of};
@@ -38,11 +37,11 @@ impl Relay {
     /// Empty boxes by these specs, with all the memory that they will ever use. A relay has up to
     /// `RELAY_LIMIT`, no two of one name.
     pub fn new(alloc: Global, specs: &[BoxSpec]) -> Result<Relay, AllocError>
-        ensures { IfOk result (λ relay. relay ≡ map empty_box (names_of specs.now)) }
+        ensures { IfOk result (λ relay. relay ≡ map empty_box specs.now) }
     {
         let mut boxes = Vec::new(alloc);
         for spec in specs {
-            boxes.push(Mailbox::new(alloc, spec.name.copied())?)?;
+            boxes.push(Mailbox::new(alloc, spec)?)?;
         }
         Ok(Relay { boxes })
     }
@@ -69,8 +68,9 @@ impl Relay {
     }
 
     /// Answers a request: writes the reply's frame at the beginning of `out`, and tells how many
-    /// bytes that has, and the place of the box that changed: exactly where the reply is Stored or
-    /// Acked.
+    /// bytes that has, and the place of the box that changed. A box without a guard changed exactly
+    /// where the reply is Stored or Acked, and a guarded one exactly where the reply isn't Denied:
+    /// it keeps the counter of each request that it served.
     pub fn answer(&mut self, request: &Request<'_>, out: &mut [u8]) -> (usize, Option<usize>)
         requires { FRAME_LIMIT ≤ length out.old }
         ensures next { self.new ≡ (answers_of self.old (asked_of request.now)).next }
@@ -82,7 +82,7 @@ impl Relay {
             return (write_reply(&Reply::Unknown, out), None);
         };
         let mailbox = &mut self.boxes[place];
-        let (size, changed) = mailbox.answer(&request.ask, out);
+        let (size, changed) = mailbox.answer(request, out);
         (size, if changed { Some(place) } else { None })
     }
 }

@@ -3,7 +3,7 @@
 ghost use Rattle.std.specs.Prelude.{◌≡◌};
 ghost use Rattle.grammar.specs.Standing.{Reads};
 ghost use Rattle.relay_core.specs.Record.{EndsWithin};
-ghost use Rattle.relay_core.specs.Versions.{version_code, version_field};
+ghost use Rattle.relay_core.specs.Versions.{has_guards, version_code, version_field};
 
 use grammar::Cursor;
 
@@ -11,10 +11,11 @@ use grammar::Cursor;
 #[derive(Clone, Copy)]
 pub(crate) enum Version {
     One,
+    Two,
 }
 
 /// The version that is written.
-pub(crate) const NEWEST: Version = Version::One;
+pub(crate) const NEWEST: Version = Version::Two;
 
 impl Version {
     /// Its byte.
@@ -23,6 +24,17 @@ impl Version {
     {
         match self {
             Version::One => 1,
+            Version::Two => 2,
+        }
+    }
+
+    /// Whether a box may have a guard.
+    pub(crate) fn has_guards(self) -> bool
+        ensures { result ≡ has_guards self }
+    {
+        match self {
+            Version::One => false,
+            Version::Two => true,
         }
     }
 }
@@ -36,6 +48,7 @@ pub(crate) fn read_version(cursor: &mut Cursor<'_>) -> Result<Version, usize>
     let at = cursor.at();
     match cursor.number8()? {
         1 => Ok(Version::One),
+        2 => Ok(Version::Two),
         _ => Err(at),
     }
 }

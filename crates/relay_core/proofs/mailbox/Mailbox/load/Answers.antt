@@ -6,8 +6,8 @@ use Rattle.dr_base.proofs.Bytes.{are_bytes}
 use Rattle.relay_core.specs.Boxes.{Kept}
 use Rattle.relay_core.specs.Lawful.{IsLawfulBox}
 use Rattle.relay_core.specs.Record.{HeadParts, head_fields, head_seen}
-use Rattle.relay_core.proofs.BoxGrammar.{record_grammar}
 use Rattle.relay_core.proofs.Names.{same_name}
+use Rattle.relay_core.proofs.RecordLaw.{read-lawful}
 use Rattle.relay_core.proofs.TakenBoxes.{whole_box}
 use Rattle.relay_core.proofs.mailbox.Mailbox.load.Goals as goal
 
@@ -22,6 +22,6 @@ invariant_of-self c =
     let packets : Read (List Kept) = record { value = c.take_packets.new.packets; at = c.take_packets.new.cursor.at; rest = c.take_packets.new.cursor.rest } in
     let was = subst (λ (s : Standing). head_fields s.at s.rest ≡ Ok head) c.new-cursor.ensures c.in-Ok.ensures.reads in
     let is_box = whole_box text head was packets c.in-Ok-take_packets.ensures c.requires in
-    let lawful = (record_grammar.only text _ (are_bytes text (λ i. omega (arith, c.type_inv.text i))) is_box).1 in
+    let lawful = read-lawful text _ (are_bytes text (λ i. omega (arith, c.type_inv.text i))) is_box in
     let name = same_name _ _ (not_false _ (sym c.ne.ensures ∙ c.if-ne.false)) ∙ c.bytes.ensures.value in
-    subst (λ (n : List ℕ). IsLawfulBox (record { name = n; last = c.in-Ok.head.last; packets = packets.value })) name lawful
+    subst (λ (n : List ℕ). IsLawfulBox (record { name = n; last = c.in-Ok.head.last; packets = packets.value; guard = c.in-Ok.head.guard })) name lawful
