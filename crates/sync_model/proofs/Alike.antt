@@ -1,8 +1,8 @@
 -- Sides that are alike read the same replies alike.
 use Rattle.std.proofs.Common.{◌≡◌, ℕ, ◌+◌, ◌==◌, Bool, true, false, List, [], ◌∷◌, ◌++◌, refl, sym, ◌∙◌, ap, ap₂, subst, Some}
 use Rattle.std.specs.Prelude.{if◌then◌else◌}
-use Rattle.relay_wire.specs.Requests.{Asked, fetches, acks}
-use Rattle.relay_wire.specs.Replies.{Replied, stored, item, empty, acked, box_full, unknown, absent, bad}
+use Rattle.relay_wire.specs.Requests.{Asked, fetches, acks, bare_request}
+use Rattle.relay_wire.specs.Replies.{Replied, stored, item, empty, acked, box_full, unknown, absent, bad, denied}
 use Rattle.sync_model.specs.Parties.{SideAct, Party, TookPacket, taking}
 use Rattle.sync_model.specs.Moves.{Move, Wait, fetching, acking, posting, over, inbox_full, wrong, asked_in, posting_of, goes, took_by, acknowledged, stored_by, move, waits_by}
 use Rattle.sync_model.specs.Courses.{Course, begun, read_one, course_from, course_of, as_list}
@@ -59,6 +59,7 @@ module _ {S T : Type 0} (p : Party S) (q : Party T) (Alike : S → T → Type 0)
   fetched_alike s t n unknown alike fair = stays s t _ _ alike refl
   fetched_alike s t n (absent m) alike fair = stays s t _ _ alike refl
   fetched_alike s t n (bad kind) alike fair = stays s t _ _ alike refl
+  fetched_alike s t n (denied rule last) alike fair = stays s t _ _ alike refl
 
   acked_alike : (s : S) (t : T) (n number : ℕ) (reply : Replied) → Alike s t → SameMove Alike (move p s (acking n number) reply) (move q t (acking n number) reply)
   acked_alike s t n number (stored m) alike = stays s t _ _ alike refl
@@ -69,6 +70,7 @@ module _ {S T : Type 0} (p : Party S) (q : Party T) (Alike : S → T → Type 0)
   acked_alike s t n number unknown alike = stays s t _ _ alike refl
   acked_alike s t n number (absent m) alike = absent_alike s t n alike (m == number)
   acked_alike s t n number (bad kind) alike = stays s t _ _ alike refl
+  acked_alike s t n number (denied rule last) alike = stays s t _ _ alike refl
 
   stored_alike : (s : S) (t : T) (number : ℕ) (which : More) → Alike s t → SameMove Alike (stored_by p s number which) (stored_by q t number which)
   stored_alike s t number which alike = record { state = alike; acts = refl; lines = are.stored_line number; wait = second s t which alike }
@@ -82,6 +84,7 @@ module _ {S T : Type 0} (p : Party S) (q : Party T) (Alike : S → T → Type 0)
   posted_alike s t which unknown alike = stays s t _ _ alike refl
   posted_alike s t which (absent m) alike = stays s t _ _ alike refl
   posted_alike s t which (bad kind) alike = stays s t _ _ alike refl
+  posted_alike s t which (denied rule last) alike = stays s t _ _ alike refl
 
   move_alike : (s : S) (t : T) (wait : Wait) (reply : Replied) → Alike s t → IsFairReply Fair t wait reply → SameMove Alike (move p s wait reply) (move q t wait reply)
   move_alike s t (fetching n) reply alike fair = fetched_alike s t n reply alike fair
@@ -90,8 +93,8 @@ module _ {S T : Type 0} (p : Party S) (q : Party T) (Alike : S → T → Type 0)
   move_alike s t (over ending) reply alike fair = stays s t _ _ alike refl
 
   pub asked_alike : (s : S) (t : T) (wait : Wait) → Alike s t → asked_in p s wait ≡ asked_in q t wait
-  asked_alike s t (fetching n) alike = ap (λ (name : List ℕ). Some (record { name = name; ask = fetches })) are.own
-  asked_alike s t (acking n number) alike = ap (λ (name : List ℕ). Some (record { name = name; ask = acks number })) are.own
+  asked_alike s t (fetching n) alike = ap (λ (name : List ℕ). Some (bare_request name fetches)) are.own
+  asked_alike s t (acking n number) alike = ap (λ (name : List ℕ). Some (bare_request name (acks number))) are.own
   asked_alike s t (posting which) alike = ap₂ posting_of are.peers (are.outbox s t alike)
   asked_alike s t (over ending) alike = refl
 

@@ -1,10 +1,11 @@
 -- A relay's reply answers the request, so no sync against its boxes goes wrong.
-use Rattle.std.proofs.Common.{◌≡◌, ℕ, zero, suc, ◌+◌, ◌==◌, Bool, true, false, List, [], ◌∷◌, Option, Some, None, refl, sym, ◌∙◌, ap, subst, arith}
+use Rattle.std.proofs.Common.{◌≡◌, ℕ, zero, suc, ◌+◌, ◌==◌, Bool, true, false, List, [], ◌∷◌, Option, Some, None, refl, sym, ap, subst, arith}
 use Rattle.std.specs.Prelude.{⊤, if◌then◌else◌}
 use Rattle.std.proofs.lemmas.Bool.Decides.{nat_tests}
-use Rattle.relay_wire.specs.Requests.{Asking, posts, fetches, acks, Asked}
-use Rattle.relay_wire.specs.Replies.{Replied, stored, item, empty, acked, box_full, unknown, absent, bad}
-use Rattle.relay_core.specs.Boxes.{Kept, Box, answer_of, answers_of, becomes, after_box, has_number, is_full, is_named, of_first, oldest, stays, with_packet, without_number}
+use Rattle.relay_wire.specs.Requests.{Asking, posts, fetches, acks, Asked, bare_request}
+use Rattle.relay_wire.specs.Replies.{Replied, stored, item, empty, acked, box_full, unknown, absent, bad, denied}
+use Rattle.relay_core.specs.Boxes.{AreUnguarded, Answer, Kept, Box, answer_in, answer_of, answers_of, becomes, after_box, has_number, is_full, is_named, of_first, oldest, stays, with_packet, without_number}
+use Rattle.relay_core.proofs.Unguarded.{plainly, unguarded_next}
 use Rattle.sync_model.specs.Parties.{Party, TookPacket, taking}
 use Rattle.sync_model.specs.Moves.{Move, Wait, inbox_full, wrong, fetching, acking, posting, over, acknowledged, asked_in, posting_of, goes, move, took_by, waits_by}
 use Rattle.sync_model.specs.Transfers.{Meeting, answered, begins, meets, meet_times}
@@ -46,14 +47,16 @@ none_named (posts packet) = tt
 none_named fetches = tt
 none_named (acks number) = tt
 
-pub relay_answers : (boxes : List Box) (asked : Asked) → Replies asked.ask (answers_of boxes asked).reply
+pub relay_answers : (boxes : List Box) (asked : Asked) → AreUnguarded boxes → Replies asked.ask (answers_of boxes asked).reply
 unfolding answers_of
-relay_answers [] asked = none_named asked.ask
-relay_answers (box ∷ boxes) asked = by_name (is_named asked.name box) (relay_answers boxes asked)
+relay_answers [] asked are = none_named asked.ask
+relay_answers (box ∷ boxes) asked are =
+    by_name (is_named asked.name box) (relay_answers boxes asked (λ k d inside. are (suc k) d (omega (arith, inside))))
   where
     by_name : (test : Bool) → Replies asked.ask (answers_of boxes asked).reply
-        → Replies asked.ask (if test then of_first (answer_of box asked.ask) boxes else after_box box (answers_of boxes asked)).reply
-    by_name true more = box_replies box asked.ask
+        → Replies asked.ask (if test then of_first (answer_in box asked) boxes else after_box box (answers_of boxes asked)).reply
+    by_name true more =
+        subst (λ (a : Answer). Replies asked.ask a.reply) (sym (plainly box asked (are 0 box (omega arith)))) (box_replies box asked.ask)
     by_name false more = more
 
 -- ---- nothing goes wrong
@@ -78,7 +81,7 @@ ask_is a b h = ap (λ (o : Option Asked). ask_or o) h
 
 posts_one : (name : List ℕ) (packets : List (List ℕ)) (asked : Asked) → posting_of name packets ≡ Some asked → (packet : List ℕ) × (posts packet ≡ asked.ask)
 posts_one name [] asked is = absurd (let e : None ≡ Some asked = is in cc)
-posts_one name (packet ∷ packets) asked is = (packet, ask_is (record { name = name; ask = posts packet }) asked is)
+posts_one name (packet ∷ packets) asked is = (packet, ask_is (bare_request name (posts packet)) asked is)
 
 module _ {S : Type 0} (p : Party S) where
   acknowledged_right : (s : S) (n : ℕ) → IsRight (acknowledged p s n).wait
@@ -109,6 +112,7 @@ module _ {S : Type 0} (p : Party S) where
   fetched_right s n box_full is = absurd is
   fetched_right s n (absent m) is = absurd is
   fetched_right s n (bad kind) is = absurd is
+  fetched_right s n (denied rule last) is = absurd is
 
   acked_right : (s : S) (n number : ℕ) (reply : Replied) → Replies (acks number) reply → IsRight (move p s (acking n number) reply).wait
   acked_right s n number acked is = acknowledged_right s n
@@ -121,6 +125,7 @@ module _ {S : Type 0} (p : Party S) where
   acked_right s n number empty is = absurd is
   acked_right s n number box_full is = absurd is
   acked_right s n number (bad kind) is = absurd is
+  acked_right s n number (denied rule last) is = absurd is
 
   posted_right : (s : S) (which : More) (packet : List ℕ) (reply : Replied) → Replies (posts packet) reply → IsRight (move p s (posting which) reply).wait
   posted_right s which packet (stored m) is = second_right (p.outbox (p.sent s)) which
@@ -131,27 +136,37 @@ module _ {S : Type 0} (p : Party S) where
   posted_right s which packet acked is = absurd is
   posted_right s which packet (absent m) is = absurd is
   posted_right s which packet (bad kind) is = absurd is
+  posted_right s which packet (denied rule last) is = absurd is
 
   moves_right : (s : S) (wait : Wait) (asked : Asked) (reply : Replied) → asked_in p s wait ≡ Some asked → Replies asked.ask reply → IsRight (move p s wait reply).wait
   moves_right s (fetching n) asked reply is answers =
-      fetched_right s n reply (subst (λ (a : Asking). Replies a reply) (sym (ask_is (record { name = p.own; ask = fetches }) asked is)) answers)
+      fetched_right s n reply (subst (λ (a : Asking). Replies a reply) (sym (ask_is (bare_request p.own fetches) asked is)) answers)
   moves_right s (acking n number) asked reply is answers =
-      acked_right s n number reply (subst (λ (a : Asking). Replies a reply) (sym (ask_is (record { name = p.own; ask = acks number }) asked is)) answers)
+      acked_right s n number reply (subst (λ (a : Asking). Replies a reply) (sym (ask_is (bare_request p.own (acks number)) asked is)) answers)
   moves_right s (posting which) asked reply is answers =
       let one = posts_one p.peers (p.outbox s) asked is in
       posted_right s which one.0 reply (subst (λ (a : Asking). Replies a reply) (sym one.1) answers)
   moves_right s (over ending) asked reply is answers = absurd (let e : None ≡ Some asked = is in cc)
 
-  meets_right : (m : Meeting S) → IsRight m.course.wait → IsRight (meets p m).course.wait
-  meets_right m right = by_asked (asked_in p m.course.state m.course.wait) refl
+  -- no box has a guard, and so it stays
+  record GoesRight (m : Meeting S) : Type 0 where
+    right : IsRight m.course.wait
+    open_boxes : AreUnguarded m.boxes
+
+  meets_right : (m : Meeting S) → GoesRight m → GoesRight (meets p m)
+  meets_right m goes = by_asked (asked_in p m.course.state m.course.wait) refl
     where
-      by_asked : (o : Option Asked) → asked_in p m.course.state m.course.wait ≡ o → IsRight (answered p m o).course.wait
-      by_asked None is = right
-      by_asked (Some asked) is = moves_right m.course.state m.course.wait asked (answers_of m.boxes asked).reply is (relay_answers m.boxes asked)
+      by_asked : (o : Option Asked) → asked_in p m.course.state m.course.wait ≡ o → GoesRight (answered p m o)
+      by_asked None is = goes
+      by_asked (Some asked) is = record {
+        right = moves_right m.course.state m.course.wait asked (answers_of m.boxes asked).reply is (relay_answers m.boxes asked goes.open_boxes);
+        open_boxes = unguarded_next m.boxes asked goes.open_boxes;
+      }
 
-  times_right : (n : ℕ) (m : Meeting S) → IsRight m.course.wait → IsRight (meet_times p n m).course.wait
-  times_right zero m right = right
-  times_right (suc n) m right = times_right n (meets p m) (meets_right m right)
+  times_right : (n : ℕ) (m : Meeting S) → GoesRight m → GoesRight (meet_times p n m)
+  times_right zero m goes = goes
+  times_right (suc n) m goes = times_right n (meets p m) (meets_right m goes)
 
-  pub never_wrong : (n : ℕ) (s : S) (boxes : List Box) → (meet_times p n (begins p s boxes)).course.wait ≡ over wrong → ⊥
-  never_wrong n s boxes is = subst IsRight is (times_right n (begins p s boxes) tt)
+  pub never_wrong : (n : ℕ) (s : S) (boxes : List Box) → AreUnguarded boxes
+      → (meet_times p n (begins p s boxes)).course.wait ≡ over wrong → ⊥
+  never_wrong n s boxes are is = subst IsRight is (times_right n (begins p s boxes) (record { right = tt; open_boxes = are })).right

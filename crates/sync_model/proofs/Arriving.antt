@@ -55,14 +55,17 @@ no_more p s replies ending is_over =
     ap (λ (w : Wait). (course_of p s replies).requests ++ as_list (asked_in p (course_of p s replies).state w)) is_over ∙ append-nil (course_of p s replies).requests
 
 module _ {S : Type 0} (p : Party S) (s : S) (boxes : List Box) (own peers : Box) where
-  pub can_transfer : bytes_eq p.own p.peers ≡ false → All IsLawfulBox boxes → box_of p.own boxes ≡ Some own → box_of p.peers boxes ≡ Some peers → HasRoom p s own.packets
+  pub can_transfer : bytes_eq p.own p.peers ≡ false → All IsLawfulBox boxes → box_of p.own boxes ≡ Some own → box_of p.peers boxes ≡ Some peers
+      → own.guard ≡ None → peers.guard ≡ None → HasRoom p s own.packets
       → ((t : S) → p.outbox (p.sent t) ≡ drop 1 (p.outbox t)) → ((t : S) (packet : List ℕ) → p.outbox (p.take t packet).next ≡ p.outbox t) → CanTransfer p s boxes own peers
-  can_transfer apart lawful own_box peers_box room drops keeps =
+  can_transfer apart lawful own_box peers_box own_open peers_open room drops keeps =
       let of_own = lawful_named p.own boxes own own_box lawful in
       record {
         apart = apart;
         own_box = own_box;
         peers_box = peers_box;
+        own_open = own_open;
+        peers_open = peers_open;
         distinct = distinct zero own.last own.packets of_own.rises;
         few = omega (arith, of_own.count);
         room = room;

@@ -93,11 +93,11 @@ module _ {S : Type 0} (p : Party S) (drops : (t : S) → p.outbox (p.sent t) ≡
   module _ (own : is_name p.own ≡ true) (peers : is_name p.peers ≡ true) where
     posts_lawful : (packets : List (List ℕ)) → ArePackets packets → AllByRecursion IsLawfulAsked (as_list (posting_of p.peers packets))
     posts_lawful [] are = tt
-    posts_lawful (packet ∷ packets) are = ((peers, are.0), tt)
+    posts_lawful (packet ∷ packets) are = ((peers, are.0, tt), tt)
 
     asks_lawful : (size count : ℕ) (s : S) (wait : Wait) → IsOrderly size count s wait → AllByRecursion IsLawfulAsked (asks s wait)
-    asks_lawful size count s (fetching n) is = ((own, tt), tt)
-    asks_lawful size count s (acking n number) is = ((own, is.counted.0), tt)
+    asks_lawful size count s (fetching n) is = ((own, tt, tt), tt)
+    asks_lawful size count s (acking n number) is = ((own, is.counted.0, tt), tt)
     asks_lawful size count s (posting which) is = posts_lawful (p.outbox s) is.packets
     asks_lawful size count s (over ending) is = tt
 

@@ -2,7 +2,7 @@
 use Rattle.std.proofs.Common.{◌≡◌, ◌≢◌, ℕ, ◌+◌, Bool, true, false, List, [], ◌∷◌, refl, arith}
 use Rattle.std.specs.Prelude.{◌==◌, if◌then◌else◌}
 use Rattle.std.proofs.lemmas.Bool.Decides.{nat_tests}
-use Rattle.relay_wire.specs.Replies.{Replied, stored, item, empty, acked, box_full, unknown, absent, bad, IsLawfulReplied}
+use Rattle.relay_wire.specs.Replies.{Replied, stored, item, empty, acked, box_full, unknown, absent, bad, denied, IsLawfulReplied}
 use Rattle.sync_model.specs.Parties.{Party, TookPacket, taking}
 use Rattle.sync_model.specs.Moves.{Move, Ending, fetching, acking, posting, over, inbox_full, box_is_full, no_such_box, wrong, goes, took_by, acknowledged, stored_by, move, waits_by}
 use Rattle.sync_model.specs.declared.limits.TheConstants.{ITEM_LIMIT}
@@ -32,6 +32,7 @@ module _ {S : Type 0} (p : Party S) (s : S) (M : Move S → Type 0) (ends : (end
   fetched_by n none some unknown lawful = ends no_such_box
   fetched_by n none some (absent m) lawful = ends wrong
   fetched_by n none some (bad kind) lawful = ends wrong
+  fetched_by n none some (denied rule last) lawful = ends wrong
 
   -- of an acknowledgement: the packet counts as dropped, or the sync ends
   pub acked_by : (n number : ℕ) → M (acknowledged p s n) → (reply : Replied) → M (move p s (acking n number) reply)
@@ -43,6 +44,7 @@ module _ {S : Type 0} (p : Party S) (s : S) (M : Move S → Type 0) (ends : (end
   acked_by n number drops unknown = ends no_such_box
   acked_by n number drops (absent m) = by_test M (m == number) (acknowledged p s n) (goes p s (over wrong)) (λ is. drops) (λ is. ends wrong)
   acked_by n number drops (bad kind) = ends wrong
+  acked_by n number drops (denied rule last) = ends wrong
 
   -- of a post: the packet is kept, or the sync ends
   pub posted_by : (which : More) → ((number : ℕ) → M (stored_by p (p.sent s) number which)) → (reply : Replied) → M (move p s (posting which) reply)
@@ -54,6 +56,7 @@ module _ {S : Type 0} (p : Party S) (s : S) (M : Move S → Type 0) (ends : (end
   posted_by which keeps unknown = ends no_such_box
   posted_by which keeps (absent m) = ends wrong
   posted_by which keeps (bad kind) = ends wrong
+  posted_by which keeps (denied rule last) = ends wrong
 
   -- a packet that was taken is acknowledged, or the sync ends
   pub taken_by : (n number : ℕ) (packet : List ℕ) (took : TookPacket S) → M (record { state = s; acts = taking packet ∷ []; lines = []; wait = over inbox_full })

@@ -8,12 +8,13 @@ use Rattle.std.proofs.lemmas.Bool.{leb-true, and_parts}
 use Rattle.std.proofs.lemmas.Bool.Decides.{nat_tests}
 use Rattle.std.proofs.lemmas.List.{length-append, drop_at}
 use Rattle.relay_wire.specs.Names.{is_name, is_name_byte, is_packet}
-use Rattle.relay_wire.specs.Requests.{Asking, posts, fetches, acks, Asked, IsLawfulAsking, IsLawfulAsked, request_body, read_request}
-use Rattle.relay_wire.specs.Replies.{Replied, stored, item, empty, acked, box_full, unknown, absent, bad, IsLawfulReplied, reply_body, read_reply}
+use Rattle.relay_wire.specs.Requests.{Asking, posts, fetches, acks, Asked, IsLawfulAsking, IsLawfulAsked, plain_body, request_body, read_request, token_text}
+use Rattle.relay_wire.specs.Replies.{Replied, stored, item, empty, acked, box_full, unknown, absent, bad, denied, IsLawfulReplied, reply_body, read_reply}
 use Rattle.relay_wire.specs.Frames.{IsFrame, framed, is_body_size, size_of, frames_of}
-use Rattle.relay_wire.specs.declared.limits.TheConstants.{BODY_LIMIT, NAME_LIMIT, PACKET_LIMIT}
+use Rattle.relay_wire.specs.declared.limits.TheConstants.{BODY_LIMIT, NAME_LIMIT, PACKET_LIMIT, TOKEN_LEN}
 use Rattle.relay_wire.specs.declared.reply.BadReply.{BadReply}
 use Rattle.relay_wire.proofs.Asked.{request}
+use Rattle.relay_wire.proofs.Tokens.{token_short}
 use Rattle.relay_wire.proofs.Replied.{reply}
 use Rattle.relay_wire.proofs.Joining.{flat, frames_of_flat}
 use Rattle.relay_core.specs.Boxes.{Box, answers_of, answers_read}
@@ -102,14 +103,25 @@ packet_short : (packet : List ℕ) → is_packet packet ≡ true → length pack
 unfolding is_packet
 packet_short packet is = leb-true (length packet) PACKET_LIMIT (and_parts (nat_le 1 (length packet)) (nat_le (length packet) PACKET_LIMIT) is).1
 
+plain_short : (name : List ℕ) (ask : Asking) → is_name name ≡ true → IsLawfulAsking ask
+    → (1 ≤ length (plain_body name ask)) × (length (plain_body name ask) + (1 + TOKEN_LEN) ≤ BODY_LIMIT)
+unfolding plain_body
+plain_short name (posts packet) named is =
+    let l : length packet ≤ PACKET_LIMIT = packet_short packet is in
+    (omega (arith, length-append name packet), omega (arith, length-append name packet, name_short name named, l))
+plain_short name fetches named is =
+    (omega (arith, length-append name []), omega (arith, length-append name [], name_short name named))
+plain_short name (acks n) named is =
+    (omega (arith, length-append name (to_be_bytes w64 n)), omega (arith, length-append name (to_be_bytes w64 n), name_short name named))
+
 pub request_short : (a : Asked) → IsLawfulAsked a → (1 ≤ length (request_body a)) × (length (request_body a) ≤ BODY_LIMIT)
 unfolding request_body
-request_short a lawful = by_ask a.ask lawful.1
-  where
-    by_ask : (ask : Asking) → IsLawfulAsking ask → (1 ≤ length (request_body (record { name = a.name; ask = ask }))) × (length (request_body (record { name = a.name; ask = ask })) ≤ BODY_LIMIT)
-    by_ask (posts packet) is = let l : length packet ≤ PACKET_LIMIT = packet_short packet is in (omega (arith, length-append a.name packet), omega (arith, length-append a.name packet, name_short a.name lawful.0, l))
-    by_ask fetches is = (omega (arith, length-append a.name []), omega (arith, length-append a.name [], name_short a.name lawful.0))
-    by_ask (acks n) is = (omega (arith, length-append a.name (to_be_bytes w64 n)), omega (arith, length-append a.name (to_be_bytes w64 n), name_short a.name lawful.0))
+request_short a lawful =
+    let plain = plain_short a.name a.ask lawful.0 lawful.1 in
+    let long = length-append (token_text a.token) (plain_body a.name a.ask) in
+    let short = token_short a.token lawful.2 in
+    let least = plain.0 in let most = plain.1 in
+    (omega (arith, long, least), omega (arith, long, short, most))
 
 reply_short : (r : Replied) → IsLawfulReplied r → (1 ≤ length (reply_body r)) × (length (reply_body r) ≤ BODY_LIMIT)
 unfolding reply_body
@@ -121,6 +133,7 @@ reply_short box_full lawful = (omega arith, omega arith)
 reply_short unknown lawful = (omega arith, omega arith)
 reply_short (absent n) lawful = (omega arith, omega arith)
 reply_short (bad kind) lawful = (omega arith, omega arith)
+reply_short (denied rule last) lawful = (omega arith, omega arith)
 
 pub request_frames : (xs : List Asked) → AllByRecursion IsLawfulAsked xs → AllByRecursion IsFrame (map request_frame xs)
 request_frames [] lawful = tt

@@ -1,7 +1,7 @@
 -- A sync that is over stays as it is.
 use Rattle.std.proofs.Common.{◌≡◌, ◌⊎◌, inl, inr, ℕ, zero, suc, false, List, [], ◌∷◌, Some, refl, sym, ◌∙◌, ap, subst}
 use Rattle.std.specs.Str.{bytes_eq}
-use Rattle.relay_wire.specs.Requests.{Asked, posts}
+use Rattle.relay_wire.specs.Requests.{Asked, posts, bare_request}
 use Rattle.relay_wire.specs.Replies.{Replied}
 use Rattle.relay_core.specs.Boxes.{Box, answers_of, box_of}
 use Rattle.relay_core.proofs.Apart.{next_other}
@@ -63,13 +63,13 @@ module _ {S : Type 0} (p : Party S) where
         → IsAtSecond (answered p m (posting_of p.peers packets)) s ⊎ IsAtSecond (answered p m (posting_of p.peers packets)) (p.sent s)
     at_post m s which [] is at = inl at
     at_post m s which (packet ∷ packets) is at =
-        let asked : Asked = record { name = p.peers; ask = posts packet } in
+        let asked : Asked = bare_request p.peers (posts packet) in
         let reply = (answers_of m.boxes asked).reply in
         let own_still = next_other m.boxes asked p.own (other_way p.own p.peers apart) ∙ at.own_box in
         by_post own_still (subst (λ (w : Wait). IsPosted m.course.state (move p m.course.state w reply)) (sym is) (posted_so m.course.state which reply))
       where
-        by_post : box_of p.own (answers_of m.boxes (record { name = p.peers; ask = posts packet })).next ≡ Some own
-            → IsPosted m.course.state (move p m.course.state m.course.wait (answers_of m.boxes (record { name = p.peers; ask = posts packet })).reply)
+        by_post : box_of p.own (answers_of m.boxes (bare_request p.peers (posts packet))).next ≡ Some own
+            → IsPosted m.course.state (move p m.course.state m.course.wait (answers_of m.boxes (bare_request p.peers (posts packet))).reply)
             → IsAtSecond (answered p m (posting_of p.peers (packet ∷ packets))) s ⊎ IsAtSecond (answered p m (posting_of p.peers (packet ∷ packets))) (p.sent s)
         by_post still (stood same second) = inl (record { state = same ∙ at.state; own_box = still; second = second })
         by_post still (went gone second) = inr (record { state = gone ∙ ap p.sent at.state; own_box = still; second = second })

@@ -1,6 +1,6 @@
 -- What a sync makes of one reply.
 use Rattle.std.specs.Prelude.{ℕ, ◌+◌, ◌==◌, List, [], ◌∷◌, Option, Some, None, if◌then◌else◌}
-use Rattle.relay_wire.specs.Requests.{Asked, posts, fetches, acks}
+use Rattle.relay_wire.specs.Requests.{Asked, posts, fetches, acks, bare_request}
 use Rattle.relay_wire.specs.Replies.{Replied, stored, item, empty, acked, box_full, unknown, absent}
 use Rattle.sync_model.specs.Parties.{SideAct, Party, TookPacket, taking, sending}
 use Rattle.sync_model.specs.declared.limits.TheConstants.{ITEM_LIMIT}
@@ -44,15 +44,15 @@ waits_by (packet ∷ packets) which = posting which
 -- the oldest packet is posted
 abbrev pub posting_of : List ℕ → List (List ℕ) → Option Asked
 posting_of name [] = None
-posting_of name (packet ∷ packets) = Some (record { name = name; ask = posts packet })
+posting_of name (packet ∷ packets) = Some (bare_request name (posts packet))
 
 module _ {S : Type 0} (p : Party S) where
   -- ---- what is asked
 
   -- the request whose reply is waited for
   abbrev pub asked_in : S → Wait → Option Asked
-  asked_in s (fetching n) = Some (record { name = p.own; ask = fetches })
-  asked_in s (acking n number) = Some (record { name = p.own; ask = acks number })
+  asked_in s (fetching n) = Some (bare_request p.own fetches)
+  asked_in s (acking n number) = Some (bare_request p.own (acks number))
   asked_in s (posting which) = posting_of p.peers (p.outbox s)
   asked_in s (over ending) = None
 

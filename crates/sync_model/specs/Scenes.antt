@@ -1,9 +1,9 @@
 -- A sync against the boxes of a relay, of which this many replies come: the next one is lost, if there is one.
-use Rattle.std.specs.Prelude.{◌≡◌, ◌⊎◌, ⊤, ℕ, zero, suc, ◌<◌, ◌≤◌, Bool, true, List, [], ◌++◌, length, take, flat_map, All, Option, Some, None}
+use Rattle.std.specs.Prelude.{◌≡◌, ◌⊎◌, ⊤, ℕ, zero, suc, ◌<◌, Bool, true, List, ◌++◌, length, take, flat_map, All, Option, Some, None}
 use Rattle.std.specs.List.{AllByRecursion}
 use Rattle.relay_wire.specs.Requests.{Asked, IsLawfulAsked}
 use Rattle.relay_wire.specs.Replies.{Replied, IsLawfulReplied}
-use Rattle.relay_core.specs.Boxes.{Box, answers_of}
+use Rattle.relay_core.specs.Boxes.{AreUnguarded, Box, answers_of}
 use Rattle.relay_core.specs.Lawful.{IsLawfulBox}
 use Rattle.relay_core.specs.Streams.{served, reply_frame}
 use Rattle.relay_core.specs.declared.limits.TheConstants.{EXCHANGE_LIMIT}
@@ -64,8 +64,9 @@ pub record IsScene (S : Type 0) : Type 0 where
       → IsDone p kept s boxes replies
       → scene p kept s boxes
       ≡ record { course = course_of p s replies; boxes = (served boxes (request_bytes (made_requests p (course_of p s replies)))).next }
-  -- a relay's reply answers the request
-  pub right : (p : Party S) (kept : ℕ) (s : S) (boxes : List Box) → (scene p kept s boxes).course.wait ≡ over wrong → ⊥
+  -- a relay's reply answers the request, where no box has a guard
+  pub right : (p : Party S) (kept : ℕ) (s : S) (boxes : List Box) → AreUnguarded boxes
+      → (scene p kept s boxes).course.wait ≡ over wrong → ⊥
 
 -- Two sides that take packets alike play alike.
 pub record IsActedAlike (S T : Type 0) : Type 0 where

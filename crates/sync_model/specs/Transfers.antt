@@ -81,12 +81,14 @@ module _ {S : Type 0} (p : Party S) where
   abbrev pub Comes : Meeting S → S → Wait → Box → Box → Type 0
   Comes m s wait own peers = (n : ℕ) × StandsAt (meet_times p n m) s wait own peers
 
-  -- The relay has both boxes. Fewer packets stand in the own one than a sync acknowledges, and each text finds room at its
-  -- turn. Taking a packet leaves the outbox.
+  -- The relay has both boxes, and neither has a guard. Fewer packets stand in the own one than a
+  -- sync acknowledges, and each text finds room at its turn. Taking a packet leaves the outbox.
   pub record CanTransfer (s : S) (boxes : List Box) (own peers : Box) : Type 0 where
     pub apart : bytes_eq p.own p.peers ≡ false
     pub own_box : box_of p.own boxes ≡ Some own
     pub peers_box : box_of p.peers boxes ≡ Some peers
+    pub own_open : own.guard ≡ None
+    pub peers_open : peers.guard ≡ None
     pub distinct : HaveOtherNumbers own.packets
     pub few : length own.packets < ITEM_LIMIT
     pub room : HasRoom s own.packets
