@@ -12,7 +12,8 @@ use Rattle.slot_store.specs.Laws.{DependsOnAreaAlone}
 use Rattle.slot_store.specs.Reading.{IsUndamaged}
 use Rattle.slot_store.specs.Records.{stored_record}
 use Rattle.slot_store.specs.Store.{IsOldOrNew, HasArea, KeepsOutsideArea, Rests, SlotStore, content}
-use Rattle.relay_core.specs.Boxes.{Box, empty_box}
+use Rattle.relay_core.specs.Boxes.{Box, empty_box, spec_of}
+use Rattle.relay_core.specs.declared.spec.BoxSpec.{BoxSpec}
 use Rattle.relay_core.specs.declared.limits.TheConstants.{RELAY_LIMIT}
 use Rattle.relay_core.specs.Record.{IsRecordOf, box_text}
 use Rattle.relay_server.specs.declared.limits.TheConstants.{RECORD_PAGES}
@@ -30,10 +31,10 @@ filling_self : (boxes : List Box) (start : DiskState) (c : List ℕ) → start.i
 filling_self boxes start c left = record { entry = c; image = left; each = λ k box there. inl refl; undamaged = λ k less whole. whole; outside = behind_self (length boxes) c }
 
 -- stays or begins, twice
-twice : (name : List ℕ) (a b c : Option (List ℕ)) → StaysOrBegins name a b → StaysOrBegins name b c → StaysOrBegins name a c
-twice name a b c first next = ⊎_elim
+twice : (spec : BoxSpec) (a b c : Option (List ℕ)) → StaysOrBegins spec a b → StaysOrBegins spec b c → StaysOrBegins spec a c
+twice spec a b c first next = ⊎_elim
     (λ same. ⊎_elim (λ was. inl (same ∙ was)) (λ begun. inr (begun.0, same ∙ begun.1)) first)
-    (λ begins. ⊎_elim (λ was. inr (sym was ∙ begins.0, begins.1)) (λ begun. absurd (let e : None ≡ Some (box_text (empty_box name)) = sym begins.0 ∙ begun.1 in cc)) first)
+    (λ begins. ⊎_elim (λ was. inr (sym was ∙ begins.0, begins.1)) (λ begun. absurd (let e : None ≡ Some (box_text (empty_box spec)) = sym begins.0 ∙ begun.1 in cc)) first)
     next
 
 -- two calls in turn
@@ -43,7 +44,7 @@ filling_on boxes start d now first next = spans start d now (IsFilling boxes sta
     record {
       entry = was.entry;
       image = was.image;
-      each = λ k box there. twice box.name _ _ _ (was.each k box there) (is.each k box there);
+      each = λ k box there. twice (spec_of box) _ _ _ (was.each k box there) (is.each k box there);
       undamaged = λ k less whole. is.undamaged k less (was.undamaged k less whole);
       outside = behind_twice (length boxes) was.entry is.entry c was.outside is.outside;
     }) next)
@@ -111,7 +112,7 @@ pub record Put (n : ℕ) (boxes : List Box) (stores news : List SlotStore) (t : 
   pub local : DependsOnAreaAlone
   pub resting : (store : SlotStore) (c : List ℕ) → Rests store c → stored_record store.area c ≡ content store
 
-empty_there : (n : ℕ) (box : Box) (text : Option (List ℕ)) → text ≡ None → HasBox n n box text → box ≡ empty_box box.name
+empty_there : (n : ℕ) (box : Box) (text : Option (List ℕ)) → text ≡ None → HasBox n n box text → box ≡ empty_box (spec_of box)
 empty_there n box None is has = has.1
 empty_there n box (Some t) is has = absurd (let e : Some t ≡ None = is in cc)
 
@@ -148,17 +149,17 @@ module _ (n : ℕ) (boxes : List Box) (stores news : List SlotStore) (t : List �
   was_none : (d : List ℕ) → start.image d → stored_record (area_of n) d ≡ None
   was_none d left = ap (λ (a : Area). stored_record a d) (sym old_area) ∙ r.resting the_old.0 d (r.filled.rests n the_old.0 the_old.1 d left) ∙ r.none the_old.0 the_old.1
 
-  empty_text : t ≡ box_text (empty_box the_box.0.name)
+  empty_text : t ≡ box_text (empty_box (spec_of the_box.0))
   empty_text = r.written the_box.0 the_box.1 ∙ ap box_text (empty_there n the_box.0 (content the_old.0) (r.none the_old.0 the_old.1) (r.filled.each n the_old.0 the_box.0 the_old.1 the_box.1))
 
   named : (box : Box) → slice_get boxes n ≡ Some box → the_box.0 ≡ box
   named box there = let e : Some the_box.0 ≡ Some box = sym the_box.1 ∙ there in cc
 
-  either : (c : List ℕ) (box : Box) → slice_get boxes n ≡ Some box → IsOldOrNew start the_old.0.area (content the_old.0) (Some t) c → (d : List ℕ) → start.image d → StaysOrBegins box.name (stored_record (area_of n) d) (stored_record (area_of n) c)
+  either : (c : List ℕ) (box : Box) → slice_get boxes n ≡ Some box → IsOldOrNew start the_old.0.area (content the_old.0) (Some t) c → (d : List ℕ) → start.image d → StaysOrBegins (spec_of box) (stored_record (area_of n) d) (stored_record (area_of n) c)
   either c box there o d left =
       let at : stored_record (area_of n) c ≡ stored_record the_old.0.area c = ap (λ (a : Area). stored_record a c) (sym old_area) in
       ⊎_elim (λ old. inl (at ∙ old ∙ r.none the_old.0 the_old.1 ∙ sym (was_none d left)))
-      (λ new. inr (was_none d left, at ∙ new ∙ ap (λ (x : List ℕ). Some x) (empty_text ∙ ap (λ (b : Box). box_text (empty_box b.name)) (named box there)))) o.either
+      (λ new. inr (was_none d left, at ∙ new ∙ ap (λ (x : List ℕ). Some x) (empty_text ∙ ap (λ (b : Box). box_text (empty_box (spec_of b))) (named box there)))) o.either
 
   few_box : (k : ℕ) (box : Box) → slice_get boxes k ≡ Some box → k < RELAY_LIMIT
   few_box k box there = let inside = slice_get_within boxes k box there in omega (arith, inside, r.filled.few)
@@ -179,7 +180,7 @@ module _ (n : ℕ) (boxes : List Box) (stores news : List SlotStore) (t : List �
         each = λ k box there. elim (cases_eq k n) [
           | inl same ↦
               let here : slice_get boxes n ≡ Some box = subst (λ (m : ℕ). slice_get boxes m ≡ Some box) same there in
-              subst (λ (m : ℕ). StaysOrBegins box.name (stored_record (area_of m) frame.0) (stored_record (area_of m) c)) (sym same) (either c box here o frame.0 frame.1)
+              subst (λ (m : ℕ). StaysOrBegins (spec_of box) (stored_record (area_of m) frame.0) (stored_record (area_of m) c)) (sym same) (either c box here o frame.0 frame.1)
           | inr other ↦ inl (other_same r.local k n frame.0 c (few_box k box there) (omega (arith, r.inside, r.filled.few)) other frame.2)
         ];
         undamaged = no_worse c frame.0 frame.2 o.undamaged;

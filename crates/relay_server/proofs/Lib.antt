@@ -3,6 +3,8 @@ pub mod Exits
 pub mod FrameByFrame
 pub mod FilledAreas
 pub mod LoadedBoxes
+mod Counters
+mod Lives
 mod LowerHalves
 mod Reopening
 pub mod OneStore

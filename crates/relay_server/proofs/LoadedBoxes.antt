@@ -5,13 +5,14 @@ use Rattle.std.proofs.lemmas.Bool.{cases_eq}
 use Rattle.slot_store.specs.Store.{SlotStore, content}
 use Rattle.grammar.specs.Reader.{number}
 use Rattle.slot_store.specs.Kept.{content_or_empty}
-use Rattle.relay_core.specs.Loading.{Loads}
-use Rattle.relay_core.specs.declared.loading.Loaded.TheVariants.{OtherName, Taken}
-use Rattle.relay_core.specs.Boxes.{Box}
+use Rattle.relay_core.specs.Loading.{Fits, Loads}
+use Rattle.relay_core.specs.declared.loading.Loaded.{Loaded}
+use Rattle.relay_core.specs.declared.loading.Loaded.TheVariants.{OtherKeys, OtherName, Taken}
+use Rattle.relay_core.specs.Boxes.{Box, spec_of}
 use Rattle.relay_core.specs.Record.{box_fields, box_read, head_fields}
 use Rattle.relay_core.specs.Versions.{version_field}
 use Rattle.relay_server.specs.Reading.{box_fault, box_fault_of}
-use Rattle.relay_server.specs.Filling.{AreLoaded, IsFirstOthers, IsBoxKept, IsLoadedAt, IsOthers}
+use Rattle.relay_server.specs.Filling.{AreLoaded, IsFirstOthers, IsBoxKept, IsLoadedAt, IsOthers, LoadsSo}
 use Rattle.relay_server.proofs.OneStore.{there_is}
 
 -- ---- a record is never empty
@@ -48,11 +49,8 @@ set_others (y ∷ xs) zero v (suc j) other = refl
 set_others (y ∷ xs) (suc k) v zero other = refl
 set_others (y ∷ xs) (suc k) v (suc j) other = set_others xs k v j (λ same. other (ap suc same))
 
-named : (o : Option Box) (was box : Box) → o ≡ Some was → IfSome o (λ b. b.name ≡ box.name) → was.name ≡ box.name
-named o was box is all = subst (λ (x : Option Box). IfSome x (λ b. b.name ≡ box.name)) is all
-
-unnamed : (o : Option Box) (was box : Box) → o ≡ Some was → IfSome o (λ b. b.name ≢ box.name) → was.name ≢ box.name
-unnamed o was box is all = subst (λ (x : Option Box). IfSome x (λ b. b.name ≢ box.name)) is all
+fits_so : (how : Loaded) (o : Option Box) (was box : Box) → o ≡ Some was → IfSome o (λ b. Fits how (spec_of b) box) → Fits how (spec_of was) box
+fits_so how o was box is all = subst (λ (x : Option Box). IfSome x (λ b. Fits how (spec_of b) box)) is all
 
 module _ (old new : List Box) (k : ℕ) (text : List ℕ) (clean : box_fault text ≡ None) where
   read : (b : Box) × (box_read text ≡ Ok b)
@@ -62,18 +60,26 @@ module _ (old new : List Box) (k : ℕ) (text : List ℕ) (clean : box_fault tex
   taken count loads =
       let done = subst (λ (r : Result Box ℕ). IfOk r (λ box. Loads old new k box Taken)) read.1 loads in (
         count,
-        λ j other. ap (λ (bs : List Box). slice_get bs j) done.1 ∙ set_others old k read.0 j other,
+        λ j other. ap (λ (bs : List Box). slice_get bs j) done.next ∙ set_others old k read.0 j other,
         λ was box wased boxed.
-            let same : box ≡ read.0 = set_here old k read.0 box (ap (λ (bs : List Box). slice_get bs k) (sym done.1) ∙ boxed) in (
+            let same : box ≡ read.0 = set_here old k read.0 box (ap (λ (bs : List Box). slice_get bs k) (sym done.next) ∙ boxed) in (
               read.1 ∙ ap (λ (b : Box). Ok b) (sym same),
-              ap (λ (b : Box). b.name) same ∙ sym (named (slice_get old k) was read.0 wased done.0),
+              ap spec_of same ∙ fits_so Taken (slice_get old k) was read.0 wased done.fits,
             ),
       )
 
-  pub refused : IfOk (box_read text) (λ box. Loads old new k box OtherName) → (was : Box) → slice_get old k ≡ Some was → IsOthers was (Some text)
-  refused loads was wased =
-      let done = subst (λ (r : Result Box ℕ). IfOk r (λ box. Loads old new k box OtherName)) read.1 loads in
-      (read.0, read.1, λ same. unnamed (slice_get old k) was read.0 wased done.0 (sym same))
+  pub refused : (how : Loaded) → IfOk (box_read text) (λ box. Loads old new k box how) → (was : Box) → slice_get old k ≡ Some was
+      → IsOthers how was (Some text)
+  refused how loads was wased =
+      let done = subst (λ (r : Result Box ℕ). IfOk r (λ box. Loads old new k box how)) read.1 loads in
+      (read.0, read.1, fits_so how (slice_get old k) was read.0 wased done.fits)
+
+  -- what became of the box, by what the record is
+  pub loads_so : (how : Loaded) → length new ≡ length old → IfOk (box_read text) (λ box. Loads old new k box how)
+      → LoadsSo how k old new (Some text)
+  loads_so Taken count loads = taken count loads
+  loads_so OtherName count loads = refused OtherName loads
+  loads_so OtherKeys count loads = refused OtherKeys loads
 
 pub unchanged : (old : List Box) (k : ℕ) (o : Option (List ℕ)) → o ≡ None → IsLoadedAt k old old o
 unchanged old k o is = subst (IsLoadedAt k old old) (sym is) (refl, λ j other. refl, λ was box wased boxed. let e : Some was ≡ Some box = sym wased ∙ boxed in let f : was ≡ box = cc in sym f)
@@ -106,9 +112,10 @@ loaded_on n old boxes news stores store so_far here one = record {
   others = λ k from. one.1 k (λ same. omega (arith, same, from)) ∙ so_far.others k (omega (arith, from));
 }
 
-pub others_first : (n : ℕ) (old boxes : List Box) (stores : List SlotStore) (store : SlotStore) → AreLoaded n old boxes stores → n < length old → slice_get stores n ≡ Some store
-    → ((was : Box) → slice_get boxes n ≡ Some was → IsOthers was (content store)) → IsFirstOthers n old stores
-others_first n old boxes stores store so_far inside here other = record {
+pub others_first : (how : Loaded) (n : ℕ) (old boxes : List Box) (stores : List SlotStore) (store : SlotStore) → AreLoaded n old boxes stores
+    → n < length old → slice_get stores n ≡ Some store
+    → ((was : Box) → slice_get boxes n ≡ Some was → IsOthers how was (content store)) → IsFirstOthers how n old stores
+others_first how n old boxes stores store so_far inside here other = record {
   inside = inside;
   before = λ j was found less wased there.
       let box = there_is boxes j (omega (arith, less, inside, so_far.count)) in
@@ -116,5 +123,5 @@ others_first n old boxes stores store so_far inside here other = record {
   here = λ was found wased there.
       let e : Some store ≡ Some found = sym here ∙ there in
       let f : store ≡ found = cc in
-      subst (λ (x : SlotStore). IsOthers was (content x)) f (other was (so_far.others n (from_itself n) ∙ wased));
+      subst (λ (x : SlotStore). IsOthers how was (content x)) f (other was (so_far.others n (from_itself n) ∙ wased));
 }

@@ -22,7 +22,8 @@ use Rattle.relay_server.specs.Places.{SameBehind, UnwrittenBehind, area_of}
 use Rattle.relay_server.specs.Opening.{IsFirstDamaged, IsServerUnopened, OfRead}
 use Rattle.relay_server.specs.Reading.{IsUndamagedReading, area_read, box_fault}
 use Rattle.relay_server.specs.declared.errors.ServerOpenError.{ServerOpenError}
-use Rattle.relay_server.specs.declared.errors.ServerOpenError.TheVariants.{BoxName, Damaged, Memory, StoreFault}
+use Rattle.relay_server.specs.declared.errors.ServerOpenError.TheVariants.{BoxKeys, BoxName, Damaged, Memory, StoreFault}
+use Rattle.relay_core.specs.declared.spec.BoxSpec.{BoxSpec}
 use Rattle.relay_server.proofs.Behind.{area_apart, behind_more, behind_one, behind_self, behind_twice}
 use Rattle.relay_server.proofs.OneStore.{apart, same_undamaged, there_is}
 
@@ -62,11 +63,12 @@ pub unlooked : (count : ℕ) (start : DiskState) → HasLooked count start start
 unlooked count start = record { during = stays start (IsLikeEntry count start); still = λ rest. record { seen = refl; images = λ c left. left } }
 
 -- why no area was opened is why no server is
-pub unopened : (names : List (List ℕ)) (start now : DiskState) (error : ServerOpenError) → AreRefused (length names) start now error → IsServerUnopened names start now error
-unopened names start now Memory is = is
-unopened names start now (StoreFault call) is = is
-unopened names start now (Damaged area slot at) is = is
-unopened names start now (BoxName k) is = absurd is
+pub unopened : (specs : List BoxSpec) (start now : DiskState) (error : ServerOpenError) → AreRefused (length specs) start now error → IsServerUnopened specs start now error
+unopened specs start now Memory is = is
+unopened specs start now (StoreFault call) is = is
+unopened specs start now (Damaged area slot at) is = is
+unopened specs start now (BoxName k) is = absurd is
+unopened specs start now (BoxKeys k) is = absurd is
 
 -- no area was opened yet
 pub none_opened : (count : ℕ) (start : DiskState) (stores : List SlotStore) → stores ≡ [] → AreOpened 0 count stores start start
@@ -167,6 +169,7 @@ module _ (local : DependsOnAreaAlone) (n count : ℕ) (start d now : DiskState) 
     subst (λ (k : ℕ). UnwrittenBehind k start now) (sym is.0) (unwritten_behind is.3),
   )
   refused (BoxName k) is = absurd is
+  refused (BoxKeys k) is = absurd is
 
   -- ---- it is opened
 

@@ -12,7 +12,7 @@ use Rattle.relay_server.specs.Places.{area_of, SameBehind, UnwrittenBehind}
 use Rattle.relay_server.specs.Reading.{AreNoWorse, area_read, box_fault}
 use Rattle.relay_server.specs.Opening.{IsFirstDamaged, OfRead}
 use Rattle.relay_server.specs.declared.errors.ServerOpenError.{ServerOpenError}
-use Rattle.relay_server.specs.declared.errors.ServerOpenError.TheVariants.{BoxName, Damaged, Memory, StoreFault}
+use Rattle.relay_server.specs.declared.errors.ServerOpenError.TheVariants.{BoxKeys, BoxName, Damaged, Memory, StoreFault}
 
 -- what a store was read as
 abbrev pub store_reading : Option (List ℕ) → AreaReading
@@ -36,6 +36,7 @@ IsAreaRefused k start now (Damaged area slot at) =
     (area ≡ k) × IsQuiet start now × ((s : List ℕ) → start.seen ≡ Some s → area_read k s ≡ damaged slot at)
     × Unwritten start now
 IsAreaRefused k start now (BoxName j) = ⊥
+IsAreaRefused k start now (BoxKeys j) = ⊥
 
 -- Each of this many areas has the record that one image of that moment has there, and is read without
 -- damage where that is. What lies in none of them is the same.
@@ -74,3 +75,4 @@ AreRefused count start now (StoreFault call) = Rose (start.faults call) (now.fau
 AreRefused count start now (Damaged area slot at) = (area < count) × IsQuiet start now × OfRead start (IsFirstDamaged count area slot at)
     × UnwrittenBehind area start now
 AreRefused count start now (BoxName k) = ⊥
+AreRefused count start now (BoxKeys k) = ⊥

@@ -1,13 +1,14 @@
--- A connection frame by frame: what stands on the disk once each reply is sent, and what a crash may leave until the
--- next one is. The disks and pipes between two frames are values of the types that the caller chose: what is claimed for
--- all such types is claimed for those whose values are just the states that a disk and a pipe went through.
-use Rattle.std.specs.Prelude.{◌≡◌, ◌⊎◌, ℕ, Bool, true, false, List, [], ◌∷◌, ◌++◌, filter, Result}
+-- A connection frame by frame: what stands on the disk once each reply is sent, and what a crash may
+-- leave until the next one is. The disks and pipes between two frames are values of the types that
+-- the caller chose: what is claimed for all such types is claimed for those whose values are just the
+-- states that a disk and a pipe went through.
+use Rattle.std.specs.Prelude.{◌≡◌, ◌⊎◌, ℕ, Bool, true, false, List, [], ◌∷◌, ◌++◌, filter, Option, Some, None, is_some, Result}
 use Rattle.dr_disk.specs.State.{DiskState}
 use Rattle.dr_disk.specs.Spans.{Span}
 use Rattle.dr_ports.specs.Wires.{Port}
 use Rattle.relay_pipe.specs.Exchanging.{Exchanges}
 use Rattle.relay_wire.specs.Frames.{frames_of}
-use Rattle.relay_wire.specs.Replies.{Replied, stored, acked}
+use Rattle.relay_wire.specs.Replies.{Replied, stored, acked, denied}
 use Rattle.relay_core.specs.declared.limits.TheConstants.{EXCHANGE_LIMIT}
 use Rattle.relay_core.specs.Alone.{box_after}
 use Rattle.relay_core.specs.Boxes.{Box, box_of}
@@ -83,20 +84,31 @@ pub data IsMoment {X Y : Type 0} (state : X → DiskState) (port : Y → Port) (
       → after ≡ (after_frames boxes (frames ++ frame ∷ [])).next → WasLeft (state disk) (state next) c
       → IsMoment state port boxes start from frames c
 
--- a packet was kept, or dropped
-abbrev pub is_accepting : Replied → Bool
-is_accepting (stored number) = true
-is_accepting acked = true
-is_accepting _ = false
+-- a packet was kept, or dropped; or a guarded box served a request, and kept its counter
+abbrev pub is_accepting : Bool → Replied → Bool
+is_accepting guarded (stored number) = true
+is_accepting guarded acked = true
+is_accepting guarded (denied rule last) = false
+is_accepting guarded _ = guarded
 
 -- the requests that were accepted
-abbrev pub accepted : List BoxExchange → List BoxExchange
-accepted list = filter (λ t. is_accepting t.reply) list
+abbrev pub accepted : Bool → List BoxExchange → List BoxExchange
+accepted guarded list = filter (λ t. is_accepting guarded t.reply) list
 
--- Bytes that stand for the boxes after these frames, or after one more: each is what its own accepted requests made of it.
+abbrev pub is_guarded : Option Box → Bool
+is_guarded None = false
+is_guarded (Some box) = is_some box.guard
+
+-- the box of a name after its own accepted requests among these
+abbrev pub after_accepted : List ℕ → List Box → List BoxExchange → Option Box
+after_accepted name boxes list =
+    box_after (box_of name boxes) (asks (accepted (is_guarded (box_of name boxes)) list))
+
+-- Bytes that stand for the boxes after these frames, or after one more: each is what its own
+-- accepted requests made of it.
 pub record StandsForSent (boxes : List Box) (frames : List (List ℕ)) (c : List ℕ) : Type 0 where
   pub front : List (List ℕ)
   pub reach : (front ≡ frames) ⊎ ((frame : List ℕ) × (front ≡ frames ++ frame ∷ []))
   pub stands : StandsForBoxes (after_frames boxes front).next c
   pub alone : (name : List ℕ) → box_of name (after_frames boxes front).next
-      ≡ box_after (box_of name boxes) (asks (accepted (told name (after_frames boxes front).exchanges)))
+      ≡ after_accepted name boxes (told name (after_frames boxes front).exchanges)

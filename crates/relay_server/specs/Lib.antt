@@ -10,3 +10,4 @@ pub mod FrameByFrame
 pub mod Limits
 pub mod LowerHalves
 pub mod Reopening
+pub mod Lives

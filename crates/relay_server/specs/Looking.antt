@@ -1,8 +1,9 @@
 -- The areas of a relay are looked at, and settled later.
-use Rattle.std.specs.Prelude.{◌≡◌, ℕ, List, length, Result, IfErr, IfOk}
+use Rattle.std.specs.Prelude.{◌≡◌, List, length, Result, IfErr, IfOk}
 use Rattle.dr_disk.specs.declared.call.Call.{Call}
 use Rattle.dr_disk.specs.Spans.{IsQuiet, Span}
 use Rattle.dr_disk.specs.State.{DiskState}
+use Rattle.relay_core.specs.declared.spec.BoxSpec.{BoxSpec}
 use Rattle.relay_server.specs.Areas.{HasLooked}
 use Rattle.relay_server.specs.Durable.{FailsByCall, IsServerReady, ServerNow}
 use Rattle.relay_server.specs.Filling.{AreFilled, IsFilling}
@@ -14,17 +15,17 @@ abbrev pub IsUnsettled : ServerNow → DiskState → Type 0
 IsUnsettled server disk = AreFilled 0 server.boxes server.stores disk
 
 -- A server has the boxes that were read, and its areas are not settled.
-pub record IsLooked (names : List (List ℕ)) (server : ServerNow) (start now : DiskState) : Type 0 where
+pub record IsLooked (specs : List BoxSpec) (server : ServerNow) (start now : DiskState) : Type 0 where
   pub unsettled : IsUnsettled server now
-  pub boxes : AreBoxesRead names server.boxes start
+  pub boxes : AreBoxesRead specs server.boxes start
   pub quiet : IsQuiet start now
 
--- A look at the areas of these names: what it gives, and what it does meanwhile and in each ending.
-pub record LooksAt (names : List (List ℕ)) (start now : DiskState)
+-- A look at the areas of the boxes of these specs: what it gives, and what it does meanwhile and in each ending.
+pub record LooksAt (specs : List BoxSpec) (start now : DiskState)
     (result : Result ServerNow ServerOpenError) : Type 0 where
-  pub looked : IfOk result (λ server. IsLooked names server start now)
-  pub unopened : IfErr result (IsServerUnopened names start now)
-  pub looks : HasLooked (length names) start now
+  pub looked : IfOk result (λ server. IsLooked specs server start now)
+  pub unopened : IfErr result (IsServerUnopened specs start now)
+  pub looks : HasLooked (length specs) start now
 
 -- It was settled, and is ready with the same boxes.
 pub record HasSettled (looked server : ServerNow) (start now : DiskState) : Type 0 where

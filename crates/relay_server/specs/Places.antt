@@ -4,6 +4,7 @@ use Rattle.dr_base.specs.declared.limits.TheConstants.{PAGE}
 use Rattle.dr_disk.specs.State.{Always, DiskState}
 use Rattle.slot_store.specs.Areas.{Area, HasRecordMemory, IsOutsideArea}
 use Rattle.relay_core.specs.declared.limits.TheConstants.{RELAY_LIMIT}
+use Rattle.relay_core.specs.declared.spec.BoxSpec.{BoxSpec}
 use Rattle.relay_server.specs.declared.limits.TheConstants.{BOX_PAGES, HALF_SIZE, RECORD_PAGES, UPPER_START}
 
 -- how many bytes the halves of this many areas have
@@ -31,10 +32,10 @@ HasBoxMemory text = HasRecordMemory (area_of 0) text
 abbrev pub HasRoomForAreas : ℕ → DiskState → Type 0
 HasRoomForAreas n disk = UPPER_START + halves_size n ≤ disk.size
 
--- a relay has room for boxes of these names, and a disk for their areas
-pub record HasRoomFor (names : List (List ℕ)) (disk : DiskState) : Type 0 where
-  pub few : length names ≤ RELAY_LIMIT
-  pub within : HasRoomForAreas (length names) disk
+-- a relay has room for boxes of these specs, and a disk for their areas
+pub record HasRoomFor (specs : List BoxSpec) (disk : DiskState) : Type 0 where
+  pub few : length specs ≤ RELAY_LIMIT
+  pub within : HasRoomForAreas (length specs) disk
 
 -- what lies in none of this many areas of the one is the same in the other
 pub record SameBehind (n : ℕ) (d c : List ℕ) : Type 0 where

@@ -1,11 +1,12 @@
 -- What a relay leaves is read without damage, and is opened again with the same boxes.
 use Rattle.std.specs.Prelude.{◌≡◌, ◌⊎◌, ℕ, ◌+◌, List, map, slice_get, Some}
 use Rattle.dr_disk.specs.State.{Always, DiskState}
-use Rattle.relay_core.specs.Boxes.{Box}
+use Rattle.relay_core.specs.Boxes.{Box, spec_of}
+use Rattle.relay_core.specs.declared.spec.BoxSpec.{BoxSpec}
 use Rattle.relay_server.specs.Opening.{AreBoxesRead, IsServerUnopened}
 use Rattle.relay_server.specs.Reading.{AreUndamaged, KeepsUndamaged, StandsForBoxes}
 use Rattle.relay_server.specs.declared.errors.ServerOpenError.{ServerOpenError}
-use Rattle.relay_server.specs.declared.errors.ServerOpenError.TheVariants.{BoxName, Damaged, Memory, StoreFault}
+use Rattle.relay_server.specs.declared.errors.ServerOpenError.TheVariants.{BoxKeys, BoxName, Damaged, Memory, StoreFault}
 
 -- ---- no damage comes
 
@@ -24,8 +25,8 @@ pub record StaysUndamaged {X : Type 0} (state : X → DiskState) (count : ℕ) (
 
 -- ---- boxes that stand
 
-abbrev pub names_of_boxes : List Box → List (List ℕ)
-names_of_boxes boxes = map (λ box. box.name) boxes
+abbrev pub specs_of_boxes : List Box → List BoxSpec
+specs_of_boxes boxes = map spec_of boxes
 
 -- what a read gives stands for these boxes
 pub record ReadsBoxes (boxes : List Box) (disk : DiskState) : Type 0 where
@@ -39,11 +40,12 @@ SaysNothing Memory = Unit {0}
 SaysNothing (StoreFault call) = Unit {0}
 SaysNothing (Damaged area slot at) = ⊥
 SaysNothing (BoxName k) = ⊥
+SaysNothing (BoxKeys k) = ⊥
 
 -- A disk that is read as these boxes is opened with these, or not at all, for want of memory or by a
 -- call that failed.
 pub record OpensAgain (boxes : List Box) (start now : DiskState) : Type 0 where
-  pub boxes_are : (found : List Box) → AreBoxesRead (names_of_boxes boxes) found start
+  pub boxes_are : (found : List Box) → AreBoxesRead (specs_of_boxes boxes) found start
       → found ≡ boxes
-  pub refused : (error : ServerOpenError) → IsServerUnopened (names_of_boxes boxes) start now error
+  pub refused : (error : ServerOpenError) → IsServerUnopened (specs_of_boxes boxes) start now error
       → SaysNothing error

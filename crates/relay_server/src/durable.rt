@@ -79,7 +79,9 @@ pub(crate) fn replace_at<D: Disk>(
 
 impl DurableBoxes {
     /// Answers one frame: what a reply says is on the disk before the reply is there. A box that
-    /// changes costs the calls of one replacement, and a request that changes none costs no call.
+    /// changes costs the calls of one replacement, and a request that changes none costs no call. A
+    /// guarded box changes by each request that it serves, a fetch too: its counter is on the disk
+    /// before the reply is there.
     pub fn answer<D: Disk>(
         &mut self,
         disk: &mut D,

@@ -20,4 +20,8 @@ pub enum ServerOpenError {
     /// The area of this box has the record of a box of another name. No record was put.
     #[error("the area of box {k} has another box")]
     BoxName { k: u32 },
+    /// The area of this box has the record of the box with another guard: other keys, or a guard
+    /// where it has no keys, or none where it has some. No record was put.
+    #[error("the area of box {k} has its box with other keys")]
+    BoxKeys { k: u32 },
 }

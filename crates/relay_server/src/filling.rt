@@ -3,31 +3,29 @@
 ghost use Rattle.std.specs.Prelude.{◌≡◌, ◌<◌, ◌≤◌, ◌+◌, ℕ, List, Option, IfErr, OnOk, length, slice_get};
 ghost use Rattle.slot_store.specs.Store.{SlotStore, content};
 ghost use Rattle.relay_core.specs.declared.limits.TheConstants.{RELAY_LIMIT};
-ghost use Rattle.relay_server.specs.Filling.{AreFilled, AreLoaded, Fills, IsFirstOthers, LoadsAt};
+ghost use Rattle.relay_server.specs.Filling.{AreFilled, AreLoaded, AreUnloaded, Fills, LoadsAt};
 ghost use Rattle.relay_server.specs.Reading.{box_fault};
 ghost use Rattle.relay_server.specs.Places.{HasBoxMemory};
 
 use crate::answering::write_text;
 use crate::durable::replace_at;
+use crate::errors::ServerOpenError;
 use dr_disk::{Call, Disk};
 use relay_core::{Loaded, Relay};
 use slot_store::{SlotStore, locality, resting};
 
-/// Loads the box at a place from a record, and answers whether that has its name.
-fn load_record(relay: &mut Relay, place: usize, text: &[u8]) -> bool
+/// Loads the box at a place from a record, and answers whether that has its name and its keys.
+fn load_record(relay: &mut Relay, place: usize, text: &[u8]) -> Loaded
     requires inside { place < length relay.old }
     requires clean { box_fault text.now ≡ Option.None }
     ensures { LoadsAt place relay.old relay.new (Option.Some text.now) result }
 {
-    match relay.load(place, text) {
-        Loaded::Taken => true,
-        Loaded::OtherName => false,
-    }
+    relay.load(place, text)
 }
 
-/// Loads the box at a place from its store, and answers whether the record has its name. Without a
-/// record nothing changes.
-fn load_box(relay: &mut Relay, place: usize, store: &SlotStore) -> bool
+/// Loads the box at a place from its store, and answers whether the record has its name and its
+/// keys. Without a record nothing changes.
+fn load_box(relay: &mut Relay, place: usize, store: &SlotStore) -> Loaded
     requires inside { place < length relay.old }
     requires clean { (text : List ℕ) → content store.now ≡ Option.Some text
         → box_fault text ≡ Option.None }
@@ -35,25 +33,26 @@ fn load_box(relay: &mut Relay, place: usize, store: &SlotStore) -> bool
 {
     let text = store.content();
     if text.is_empty() {
-        return true;
+        return Loaded::Taken;
     }
     load_record(relay, place, text)
 }
 
-/// Loads each box from its store, up to the first whose record has another name: its place is the
-/// error.
-pub(crate) fn load_boxes(relay: &mut Relay, stores: &[SlotStore]) -> Result<(), u32>
+/// Loads each box from its store, up to the first whose record has another name or other keys.
+pub(crate) fn load_boxes(relay: &mut Relay, stores: &[SlotStore]) -> Result<(), ServerOpenError>
     requires few { length relay.old ≤ RELAY_LIMIT }
     requires count { length stores.now ≡ length relay.old }
     requires clean { (k : ℕ) (store : SlotStore) (text : List ℕ)
         → slice_get stores.now k ≡ Option.Some store
         → content store ≡ Option.Some text → box_fault text ≡ Option.None }
     ensures loaded { OnOk result (AreLoaded (length relay.old) relay.old relay.new stores.now) }
-    ensures other { IfErr result (λ k. IsFirstOthers k relay.old stores.now) }
+    ensures other { IfErr result (AreUnloaded relay.old stores.now) }
 {
     'boxes: for k in 0..stores.len() {
-        if !load_box(relay, k, &stores[k]) {
-            return Err(k as u32);
+        match load_box(relay, k, &stores[k]) {
+            Loaded::Taken => {}
+            Loaded::OtherName => return Err(ServerOpenError::BoxName { k: k as u32 }),
+            Loaded::OtherKeys => return Err(ServerOpenError::BoxKeys { k: k as u32 }),
         }
     }
     Ok(())

@@ -1,16 +1,23 @@
-//! The laws of what a crash leaves, of opening after it, of disks of lower halves alone, and of this
-//! crate's limits. The functions have no code: a caller that needs a fact calls them.
+//! The laws of what a crash leaves, of opening after it, of the counters that guarded boxes serve, of
+//! disks of lower halves alone, and of this crate's limits. The functions have no code: a caller that
+//! needs a fact calls them.
 
-ghost use Rattle.std.specs.Prelude.{◌≡◌, List, Option, length, slice_get, ℕ};
+ghost use Rattle.std.specs.Prelude.{◌≡◌, List, Option, Result, length, slice_get, ℕ};
 ghost use Rattle.dr_disk.specs.State.{Always};
-ghost use Rattle.relay_core.specs.Boxes.{Box};
-ghost use Rattle.relay_server.specs.FrameByFrame.{IsMoment, StandsForSent};
+ghost use Rattle.relay_core.specs.Boxes.{Box, box_of};
+ghost use Rattle.relay_core.specs.Counters.{RiseIn};
+ghost use Rattle.relay_core.specs.declared.spec.BoxSpec.{BoxSpec};
+ghost use Rattle.relay_guard.specs.declared.guard.Role.{Role};
+ghost use Rattle.relay_server.specs.FrameByFrame.{IsMoment, IsServedInOrder, StandsForSent};
+ghost use Rattle.relay_server.specs.Lives.{GoesOn, Session, StandsForPast, boxes_past_all, counters_over};
 ghost use Rattle.relay_server.specs.Durable.{IsServerReady, ServerNow};
 ghost use Rattle.relay_server.specs.LowerHalves.{ReadsLowerHalves};
 ghost use Rattle.relay_server.specs.Opening.{IsOpening};
 ghost use Rattle.relay_server.specs.Reading.{AreUndamaged, KeepsUndamaged, StandsForBoxes};
-ghost use Rattle.relay_server.specs.Reopening.{OpensAgain, ReadsBoxes, StaysUndamaged, names_of_boxes};
+ghost use Rattle.relay_server.specs.Reopening.{OpensAgain, ReadsBoxes, StaysUndamaged, specs_of_boxes};
 ghost use Rattle.relay_server.specs.Serving.{Reached, StandsForPart};
+ghost use Rattle.relay_server.specs.declared.serving.Ended.{Ended};
+ghost use Rattle.relay_server.specs.declared.serving.ServeFault.{ServeFault};
 
 pub use crate::limits::limits_in_numbers;
 use dr_disk::Disk;
@@ -21,7 +28,8 @@ use slot_store::{resting, widening};
 /// own requests in a beginning of the frames that came.
 ///
 /// At a moment at which the replies to the first n frames were sent whole, and no other, this is
-/// the box after its own accepted requests among these n frames, or among the first n + 1.
+/// the box after its own accepted requests among these n frames, or among the first n + 1. A guarded
+/// box has accepted each request that it served, whatever the reply.
 pub fn crashes<D: Disk, P: Pipe>()
     ensures whenever { (boxes : List Box) (got c : List ℕ) → Reached boxes got c
         → StandsForPart boxes got c }
@@ -37,9 +45,9 @@ pub fn crashes<D: Disk, P: Pipe>()
 /// What lies between two moments is what the calls' clauses say of crashes: an opening leaves no
 /// area damaged that wasn't, and a connection none at all.
 pub fn stays_undamaged<D: Disk>(moments: &[D])
-    ensures opening { (names : List (List ℕ)) (start : D) (c : List ℕ)
-        → IsOpening names (D.state start) c
-        → KeepsUndamaged (length names) (D.state start) c }
+    ensures opening { (specs : List BoxSpec) (start : D) (c : List ℕ)
+        → IsOpening specs (D.state start) c
+        → KeepsUndamaged (length specs) (D.state start) c }
     ensures serving { (boxes : List Box) (got c : List ℕ) → Reached boxes got c
         → AreUndamaged (length boxes) c }
     ensures moments { (count n : ℕ) (a : D) → StaysUndamaged D.state count moments.now
@@ -55,9 +63,30 @@ pub fn opens_again<D: Disk>(before: &D, after: &D)
         → Always (StandsForBoxes server.boxes) (D.state before.now) }
     ensures opening { (boxes : List Box) (c : List ℕ)
         → Always (StandsForBoxes boxes) (D.state before.now)
-        → IsOpening (names_of_boxes boxes) (D.state before.now) c → StandsForBoxes boxes c }
+        → IsOpening (specs_of_boxes boxes) (D.state before.now) c → StandsForBoxes boxes c }
     ensures opens { (boxes : List Box) → ReadsBoxes boxes (D.state before.now)
         → OpensAgain boxes (D.state before.now) (D.state after.now) }
+{
+    resting();
+}
+
+/// Of the requests that a guarded box answered as served under one of its keys, all counters differ
+/// and rise: over connections one after the other, from above the last one that its guard had to the
+/// one that it has then.
+///
+/// A connection leaves the boxes past the frames whose replies were sent whole, or past one frame
+/// more. That is so where it ended, and where a crash cut it: what that leaves stands for such boxes,
+/// and with these a server is opened again.
+pub fn counters_rise<D: Disk, P: Pipe>()
+    ensures rise { (role : Role) (name : List ℕ) (boxes : List Box) (sessions : List Session)
+        → RiseIn role (box_of name boxes) (box_of name (boxes_past_all boxes sessions))
+        (counters_over role name boxes sessions) }
+    ensures connection { (old new : ServerNow) (start now : D) (from door : P)
+        (result : Result Ended ServeFault)
+        → IsServedInOrder D.state P.port old new start now from door result
+        → GoesOn D.state P.port old.boxes new.boxes start from }
+    ensures crash { (boxes : List Box) (start : D) (from : P) (sent : List (List ℕ)) (c : List ℕ)
+        → IsMoment D.state P.port boxes start from sent c → StandsForPast boxes sent c }
 {
     resting();
 }

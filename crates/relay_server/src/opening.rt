@@ -1,8 +1,5 @@
 //! A relay's boxes are opened from a disk: a look, and then a settling.
 
-ghost use Rattle.std.specs.Prelude.{◌≡◌, ◌≤◌, map, length, IfOk};
-ghost use Rattle.relay_core.specs.Boxes.{empty_box};
-ghost use Rattle.relay_core.specs.Specs.{names_of};
 ghost use Rattle.relay_server.specs.Areas.{HasLooked};
 ghost use Rattle.relay_server.specs.Looking.{IsUnsettled, LooksAt, Settles};
 ghost use Rattle.relay_server.specs.Places.{HasRoomFor};
@@ -17,20 +14,21 @@ use slot_store::{locality, readings, record_memory};
 use std::alloc::Global;
 
 impl DurableBoxes {
-    /// Looks at the boxes of these specs, 1 to 16 and no two of one name: each lives in the area of its
-    /// place. The areas are opened in order, and then their records are loaded. No record is put.
+    /// Looks at the boxes of these specs, 1 to 16 and no two of one name: each lives in the area of
+    /// its place. The areas are opened in order, and then their records are loaded. No record is
+    /// put.
     ///
-    /// `Damaged` exactly where an area that was read is damaged, and `BoxName` exactly where none
-    /// is and one has a record of another name: the first one, by what was read. `StoreFault` only
-    /// where a call on the disk failed. Memory may be wanting for an area once those before it were
-    /// opened.
+    /// `Damaged` exactly where an area that was read is damaged. `BoxName` and `BoxKeys` exactly
+    /// where none is, and one has a record of another name, or of the name with other keys: the
+    /// first one that has either, by what was read. `StoreFault` only where a call on the disk
+    /// failed. Memory may be wanting for an area once those before it were opened.
     pub fn look<D: Disk>(
         alloc: Global,
         disk: &mut D,
         specs: &[BoxSpec],
     ) -> Result<DurableBoxes, ServerOpenError>
-        requires { HasRoomFor (names_of specs.now) (D.state disk.old) }
-        ensures { LooksAt (names_of specs.now) (D.state disk.old) (D.state disk.new) result }
+        requires { HasRoomFor specs.now (D.state disk.old) }
+        ensures { LooksAt specs.now (D.state disk.old) (D.state disk.new) result }
     {
         locality();
         readings();
@@ -46,7 +44,7 @@ impl DurableBoxes {
         };
         match load_boxes(&mut relay, &stores) {
             Ok(()) => {}
-            Err(k) => return Err(ServerOpenError::BoxName { k }),
+            Err(error) => return Err(error),
         }
         Ok(DurableBoxes {
             relay,

@@ -2,7 +2,6 @@
 
 ghost use Rattle.std.specs.Prelude.{◌≡◌, ◌≤◌, length, IfErr, IfOk};
 ghost use Rattle.dr_disk.specs.Spans.{Span};
-ghost use Rattle.relay_core.specs.Specs.{names_of};
 ghost use Rattle.relay_server.specs.Durable.{IsServerReady};
 ghost use Rattle.relay_server.specs.Looking.{IsUnsettled, LooksAt, Settles};
 ghost use Rattle.relay_server.specs.Opening.{IsServerOpened, IsOpening, IsServerUnopened};
@@ -77,22 +76,22 @@ fn frame_room(alloc: Global) -> Result<Vec<u8>, AllocError>
 }
 
 impl Server {
-    /// Looks at the boxes of these specs, 1 to 16 and no two of one name: each lives in the area of its
-    /// place, which has a lower and an upper half. The areas are opened in order, and then their
+    /// Looks at the boxes of these specs, 1 to 16 and no two of one name: each lives in the area of
+    /// its place, which has a lower and an upper half. The areas are opened in order, and then their
     /// records are loaded. No record is put, and where all areas are read at rest, or as zeros, no
     /// byte is written.
     ///
-    /// `Damaged` exactly where an area that was read is damaged, and `BoxName` exactly where none
-    /// is and one has a record of another name: the first one, by what was read. `StoreFault` only
-    /// where a call on the disk failed. Memory may be wanting for an area once those before it were
-    /// opened.
+    /// `Damaged` exactly where an area that was read is damaged. `BoxName` and `BoxKeys` exactly
+    /// where none is, and one has a record of another name, or of the name with other keys: the
+    /// first one that has either, by what was read. `StoreFault` only where a call on the disk
+    /// failed. Memory may be wanting for an area once those before it were opened.
     pub fn look<D: Disk>(
         alloc: Global,
         disk: &mut D,
         specs: &[BoxSpec],
     ) -> Result<Looked, ServerOpenError>
-        requires { HasRoomFor (names_of specs.now) (D.state disk.old) }
-        ensures { LooksAt (names_of specs.now) (D.state disk.old) (D.state disk.new) result }
+        requires { HasRoomFor specs.now (D.state disk.old) }
+        ensures { LooksAt specs.now (D.state disk.old) (D.state disk.new) result }
     {
         let Ok(reader) = FrameReader::new(alloc) else {
             return Err(ServerOpenError::Memory);
@@ -109,7 +108,7 @@ impl Server {
     }
 
     /// Opens the server of the boxes of these specs: a look, and then a settling. Once all areas
-    /// have their names, each one without a record gets an empty box's.
+    /// have their boxes, each one without a record gets an empty box's.
     ///
     /// The errors are those of `look`, and `StoreFault` also where a call on the disk failed while
     /// a record was put.
@@ -118,14 +117,14 @@ impl Server {
         disk: &mut D,
         specs: &[BoxSpec],
     ) -> Result<Server, ServerOpenError>
-        requires { HasRoomFor (names_of specs.now) (D.state disk.old) }
+        requires { HasRoomFor specs.now (D.state disk.old) }
         ensures opened { IfOk result
-            (λ server. IsServerOpened (names_of specs.now) server (D.state disk.old) (D.state disk.new)) }
+            (λ server. IsServerOpened specs.now server (D.state disk.old) (D.state disk.new)) }
         ensures unopened { IfErr result
-            (IsServerUnopened (names_of specs.now) (D.state disk.old) (D.state disk.new)) }
+            (IsServerUnopened specs.now (D.state disk.old) (D.state disk.new)) }
         // Meanwhile, and in each ending.
         ensures any_moment { Span (D.state disk.old) (D.state disk.new)
-            (IsOpening (names_of specs.now) (D.state disk.old)) }
+            (IsOpening specs.now (D.state disk.old)) }
     {
         let looked = match Server::look(alloc, disk, specs) {
             Ok(looked) => looked,

@@ -1,4 +1,4 @@
-use Rattle.std.proofs.Common.{◌≡◌, ℕ, true, false, List, Option, ap, length, refl, subst, sym, ◌∙◌}
+use Rattle.std.proofs.Common.{ℕ, List, Option, ap, length, refl, subst, sym, ◌∙◌}
 use Rattle.std.proofs.lemmas.Bool.{eqb-false, eqb-true}
 use Rattle.slot_store.specs.Store.{content}
 use Rattle.relay_server.specs.Filling.{LoadsAt}
@@ -14,8 +14,7 @@ pub returns-then-is_empty : goal.returns-then-is_empty
 returns-then-is_empty c =
     let empty = eqb-true (length c.content-text.result.now) 0 (sym c.is_empty.ensures ∙ c.if-is_empty.true) in
     record {
-      loaded = λ is. unchanged c.args.relay.now c.args.place (content c.args.store.now) (none_clean (content c.args.store.now) c.requires.clean (ap length (sym c.content-text.ensures) ∙ empty));
-      other = λ (e : true ≡ false). λ was here. absurd cc;
+      so = unchanged c.args.relay.now c.args.place (content c.args.store.now) (none_clean (content c.args.store.now) c.requires.clean (ap length (sym c.content-text.ensures) ∙ empty));
       count = refl;
     }
 

@@ -2,7 +2,7 @@ use Rattle.relay_server.proofs.Reopening.{each_undamaged, serving_undamaged}
 use Rattle.relay_server.proofs.laws.stays_undamaged.Goals as goal
 
 pub returns-clause-opening : goal.returns-clause-opening
-returns-clause-opening g c = λ names start image opening. (opening.entry, opening.image, opening.undamaged)
+returns-clause-opening g c = λ specs start image opening. (opening.entry, opening.image, opening.undamaged)
 
 pub returns-clause-serving : goal.returns-clause-serving
 returns-clause-serving g c = serving_undamaged
