@@ -1,8 +1,8 @@
 //! The relay, and what it replied on one connection.
 
 ghost use Rattle.std.specs.Prelude.{◌≡◌, ◌+◌, ◌*◌, ◌≤◌, ◌<◌, [], ◌++◌, length, map, nat_lt, take, IfOk};
-ghost use Rattle.relay_core.specs.Boxes.{empty_box};
-ghost use Rattle.relay_core.specs.Specs.{names_of};
+ghost use Rattle.relay_core.specs.Boxes.{AreUnguarded, empty_box};
+ghost use Rattle.relay_core.specs.Specs.{AreBare};
 ghost use Rattle.relay_core.specs.declared.limits.TheConstants.{EXCHANGE_LIMIT};
 ghost use Rattle.relay_link.specs.Desks.{HasAnswered, after_frame, fresh_desk};
 ghost use Rattle.relay_link.specs.declared.limits.TheConstants.{REPLY_LIMIT};
@@ -26,6 +26,7 @@ pub(crate) struct Desk {
 
 impl Model for Desk {
     ghost use Rattle.std.specs.Prelude.{◌≡◌, ◌+◌, ◌*◌, ◌≤◌, length, min, vec_len, vec_capacity};
+    ghost use Rattle.relay_core.specs.Boxes.{AreUnguarded};
     ghost use Rattle.relay_core.specs.declared.limits.TheConstants.{EXCHANGE_LIMIT};
     ghost use Rattle.relay_wire.specs.declared.limits.TheConstants.{FRAME_LIMIT};
     ghost use Rattle.relay_link.specs.Desks.{DeskNow};
@@ -33,17 +34,28 @@ impl Model for Desk {
 
     ghost Value = { DeskNow };
 
-    ghost view = { λ d. record { boxes = d.relay; replies = d.replies.items; kept = d.kept; answered = d.answered; left = d.left } };
+    ghost view = { λ d. record {
+      boxes = d.relay;
+      replies = d.replies.items;
+      kept = d.kept;
+      answered = d.answered;
+      left = d.left;
+    } };
 
-    ghost invariant = { λ d. (length d.room.items ≡ FRAME_LIMIT) × (d.kept ≤ REPLY_LIMIT) × (d.answered + d.left ≤ EXCHANGE_LIMIT)
-        × (vec_len d.replies ≤ min d.answered d.kept * FRAME_LIMIT) × (REPLY_LIMIT * FRAME_LIMIT ≤ vec_capacity d.replies) };
+    ghost invariant = { λ d. (length d.room.items ≡ FRAME_LIMIT) × (d.kept ≤ REPLY_LIMIT)
+        × (d.answered + d.left ≤ EXCHANGE_LIMIT)
+        × (vec_len d.replies ≤ min d.answered d.kept * FRAME_LIMIT)
+        × (REPLY_LIMIT * FRAME_LIMIT ≤ vec_capacity d.replies)
+        × AreUnguarded d.relay };
 }
 
 impl Desk {
     /// The desk of a relay with empty boxes by these specs, before its first connection's first
     /// frame.
     pub(crate) fn new(alloc: Global, specs: &[BoxSpec]) -> Result<Desk, AllocError>
-        ensures { IfOk result (λ desk. desk ≡ fresh_desk REPLY_LIMIT (map empty_box (names_of specs.now))) }
+        requires { AreBare specs.now }
+        ensures { IfOk result
+            (λ desk. desk ≡ fresh_desk REPLY_LIMIT (map empty_box specs.now)) }
     {
         Ok(Desk {
             relay: Relay::new(alloc, specs)?,
@@ -66,9 +78,10 @@ impl Desk {
         self.left = EXCHANGE_LIMIT;
     }
 
-    /// The relay.
+    /// The relay, whose boxes have no guard.
     pub(crate) fn relay(&self) -> &Relay
-        ensures { result.now ≡ self.now.boxes }
+        ensures boxes { result.now ≡ self.now.boxes }
+        ensures unguarded { AreUnguarded result.now }
     {
         &self.relay
     }
