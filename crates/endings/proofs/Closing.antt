@@ -1,5 +1,5 @@
 -- A last line after the lines of the work.
-use Rattle.std.proofs.Common.{◌≡◌, ℕ, List, [], None, Some, refl, sym, subst, ◌∙◌, ap, append-nil, arith, inl, inr}
+use Rattle.std.proofs.Common.{◌≡◌, ℕ, List, [], refl, sym, subst, ◌∙◌, ap, append-nil, arith, inl, inr}
 use Rattle.dr_ports.specs.Ports.{Rose, appended}
 use Rattle.dr_ports.specs.States.{SinkState}
 use Rattle.dr_ports.specs.Writing.{TookBeginning}

@@ -2,7 +2,7 @@
 use Rattle.std.specs.Prelude.{ℕ, List, [], ◌++◌, codes, decimal}
 use Rattle.answer_lines.specs.Answers.{refusal_text}
 use Rattle.endings.specs.declared.ending.Ending.{Ending}
-use Rattle.endings.specs.declared.ending.Ending.TheVariants.{Done, Usage, InputTooLong, BadKey, NotHex, BadBox, BoxName, BadLine, Refused, BoxFull, NoBox, ReadFault, DiskFault, LinkFault, DrawFault, NoSession, Exists, Damaged, DamagedArea, Peer, NoMemory}
+use Rattle.endings.specs.declared.ending.Ending.TheVariants.{Done, Usage, InputTooLong, BadKey, NotHex, BadBox, BoxName, BoxKeys, BadLine, Refused, BoxFull, NoBox, ReadFault, DiskFault, LinkFault, DrawFault, NoSession, Exists, Damaged, DamagedArea, Peer, NoMemory}
 use Rattle.relay_pipe.specs.declared.faults.PeerKind.{PeerKind}
 use Rattle.relay_pipe.specs.declared.faults.PeerKind.TheVariants.{Frame, Kind, Size, Wrong, Ended}
 
@@ -15,6 +15,7 @@ code_of BadKey = 3
 code_of NotHex = 3
 code_of (BadBox number) = 3
 code_of (BoxName number) = 3
+code_of (BoxKeys number) = 3
 code_of (BadLine number) = 3
 code_of (Refused refusal) = 3
 code_of BoxFull = 3
@@ -47,6 +48,7 @@ ending_text BadKey = codes "refused: BadKey"
 ending_text NotHex = codes "refused: NotHex"
 ending_text (BadBox number) = codes "refused: BadBox " ++ decimal number
 ending_text (BoxName number) = codes "refused: BoxName " ++ decimal number
+ending_text (BoxKeys number) = codes "refused: BoxKeys " ++ decimal number
 ending_text (BadLine number) = codes "refused: Script " ++ decimal number
 ending_text (Refused refusal) = codes "refused: " ++ refusal_text refusal
 ending_text BoxFull = codes "refused: BoxFull"

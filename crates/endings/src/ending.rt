@@ -23,6 +23,8 @@ pub enum Ending {
     BadBox(u32),
     /// The first box, from 1, whose area holds another name.
     BoxName(u32),
+    /// The first box, from 1, whose area holds it with another guard.
+    BoxKeys(u32),
     /// The script's first bad line, from 1.
     BadLine(u32),
     /// A side refuses.
@@ -66,6 +68,7 @@ impl Ending {
             Ending::NotHex => 3,
             Ending::BadBox(_) => 3,
             Ending::BoxName(_) => 3,
+            Ending::BoxKeys(_) => 3,
             Ending::BadLine(_) => 3,
             Ending::Refused(_) => 3,
             Ending::BoxFull => 3,

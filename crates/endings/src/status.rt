@@ -83,6 +83,7 @@ fn put_ending(line: &mut OutputLine, ending: Ending)
         Ending::NotHex => line.text(b"refused: NotHex"),
         Ending::BadBox(number) => put_named(line, b"refused: BadBox ", u64::from(number)),
         Ending::BoxName(number) => put_named(line, b"refused: BoxName ", u64::from(number)),
+        Ending::BoxKeys(number) => put_named(line, b"refused: BoxKeys ", u64::from(number)),
         Ending::BadLine(number) => put_named(line, b"refused: Script ", u64::from(number)),
         Ending::Refused(refusal) => put_refused(line, refusal),
         Ending::BoxFull => line.text(b"refused: BoxFull"),

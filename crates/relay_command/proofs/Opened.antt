@@ -18,7 +18,7 @@ use Rattle.relay_server.proofs.FrameByFrame.{at_rest}
 use Rattle.relay_server.proofs.OpenedBoxes.{fault_then, opened_then, settled_moments}
 use Rattle.relay_command.specs.Connections.{Connection, IsHeard, CouldNotListen, ConnectionStanding, listening}
 use Rattle.relay_command.specs.InTurn.{CameInTurn}
-use Rattle.relay_command.specs.Names.{AreNames}
+use Rattle.relay_command.specs.Names.{AreNames, specs_of}
 use Rattle.relay_command.specs.Relaying.{Looks, Relays, RunsRelay, was_opened, was_unheard, was_unopened, was_unsettled}
 use Rattle.relay_command.specs.Serving.{RelayRuns, ServesConnections, entry_standing}
 use Rattle.relay_command.proofs.Lifting.{lift}
@@ -42,8 +42,8 @@ module _ {X Y : Type 0} (state : X → DiskState) (port_of : Y → Port) (words 
     unheard_runs door unheard ends = record { ending = LinkFault; lines = []; came = was_unheard names looked looks.0 looks.1 unheard; ends = ends }
 
     module _ (opened : X) (heard : Y) (is_heard : IsHeard port (port_of from) (port_of heard)) (span : Span (state mid) (state opened) (IsFilling looked.boxes (state mid))) where
-      moments : Span (state start) (state opened) (IsOpening words (state start))
-      moments = settled_moments words (state start) (state mid) (state opened) looked looks.0 looks.1 span
+      moments : Span (state start) (state opened) (IsOpening (specs_of words) (state start))
+      moments = settled_moments (specs_of words) (state start) (state mid) (state opened) looked looks.0 looks.1 span
 
       -- a call on the disk failed
       pub unsettled_runs : (call : Call) → Rose ((state mid).faults call) ((state opened).faults call) → Ends DiskFault [] old new code
@@ -52,14 +52,14 @@ module _ {X Y : Type 0} (state : X → DiskState) (port_of : Y → Port) (words 
         ending = DiskFault;
         lines = [];
         came = was_unsettled names looked.boxes looks.0.boxes moments call
-            (fault_then words (state start) (state mid) (state opened) looked looks.0 looks.1 span call rose) is_heard;
+            (fault_then (specs_of words) (state start) (state mid) (state opened) looked looks.0 looks.1 span call rose) is_heard;
         ends = ends;
       }
 
       -- the boxes were opened, and their connections served
       module _ (server : ServerNow) (settled : HasSettled looked server (state mid) (state opened)) where
-        is_opened : IsServerOpened words server (state start) (state opened)
-        is_opened = opened_then words (state start) (state mid) (state opened) looked looks.0 looks.1 span server settled
+        is_opened : IsServerOpened (specs_of words) server (state start) (state opened)
+        is_opened = opened_then (specs_of words) (state start) (state mid) (state opened) looked looks.0 looks.1 span server settled
 
         abbrev first : ConnectionStanding
         first = listening port (entry_standing server.boxes (port_of from))
@@ -80,7 +80,7 @@ module _ {X Y : Type 0} (state : X → DiskState) (port_of : Y → Port) (words 
           ending = runs.ending;
           lines = runs.lines;
           came = was_opened names server.boxes is_opened.boxes opened moments (at_rest server.boxes server (state opened) refl is_opened.ready) runs.ending runs.lines
-              (lift words (Turns now first) first (state start) (state opened) (state now) (port_of from) (port_of heard) (port_of door) is_opened.boxes.count moments is_opened.quiet is_heard.gate port count code runs.ending runs.lines
+              (lift (specs_of words) (Turns now first) first (state start) (state opened) (state now) (port_of from) (port_of heard) (port_of door) is_opened.boxes.count moments is_opened.quiet is_heard.gate port count code runs.ending runs.lines
               (subst (λ (s : ConnectionStanding). ServesConnections never (Turns now s) s port count (state opened) (state now) (port_of heard) (port_of door) code runs.ending runs.lines) first_is runs.came));
           ends = runs.ends;
         }

@@ -11,7 +11,7 @@ use Rattle.endings.specs.Ending.{code_of}
 use Rattle.endings.specs.Ends.{Ends}
 use Rattle.endings.specs.declared.ending.Ending.{Ending}
 use Rattle.relay_server.specs.declared.errors.ServerOpenError.{ServerOpenError}
-use Rattle.relay_server.specs.declared.errors.ServerOpenError.TheVariants.{BoxName, Damaged, Memory, StoreFault}
+use Rattle.relay_server.specs.declared.errors.ServerOpenError.TheVariants.{BoxKeys, BoxName, Damaged, Memory, StoreFault}
 use Rattle.relay_command.specs.Connections.{AreServed, Connection, SentReplies, ConnectionStanding, HowItWent, after_connection, behind_all, ended, failed, stopped}
 use Rattle.relay_command.specs.Serving.{ServesConnections, was_stopped, was_unaccepted, went_on}
 use Rattle.relay_command.specs.Relaying.{Relays, RunsRelay, ending_after_look, had_bad_box, was_opened, was_unheard, was_unopened, was_unsettled}
@@ -24,6 +24,7 @@ open_code Memory e = omega (arith, e)
 open_code (StoreFault call) e = omega (arith, e)
 open_code (Damaged area slot at) e = omega (arith, e)
 open_code (BoxName k) e = omega (arith, e)
+open_code (BoxKeys k) e = omega (arith, e)
 
 serves_quiet : (earlier : List ℕ → Type 0) (turns : List Connection → Type 0) (s : ConnectionStanding) (port count : ℕ) (start now : DiskState) (from door : Port) (code : ℕ) (ending : Ending) (lines : List ℕ)
     → ServesConnections earlier turns s port count start now from door code ending lines → code_of ending ≡ 0 → IsQuiet start now × (door.faults Gate ≡ from.faults Gate)

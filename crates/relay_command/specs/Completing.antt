@@ -6,18 +6,19 @@ use Rattle.dr_ports.specs.Ports.{Rose}
 use Rattle.dr_ports.specs.Wires.{Port}
 use Rattle.dr_ports.specs.declared.pipe.Part.TheVariants.{Gate}
 use Rattle.relay_core.specs.Boxes.{Box}
+use Rattle.relay_core.specs.declared.spec.BoxSpec.{BoxSpec}
 use Rattle.relay_server.specs.Opening.{GivesBox}
 use Rattle.relay_server.specs.Reading.{area_read}
-use Rattle.relay_command.specs.Names.{AreNames}
+use Rattle.relay_command.specs.Names.{AreNames, specs_of}
 
 -- The words name boxes. The disk's bytes are told, and give a box for each word: no area is
--- damaged, and none has a record of another name.
+-- damaged, and none has the record of another box, or of its box with other keys.
 pub record MayServe (words : List (List ℕ)) (disk : DiskState) : Type 0 where
   pub names : AreNames words
   pub bytes : List ℕ
   pub told : disk.seen ≡ Some bytes
-  pub gives : (k : ℕ) (name : List ℕ) → slice_get words k ≡ Some name
-      → (box : Box) × GivesBox name box (area_read k bytes)
+  pub gives : (k : ℕ) (spec : BoxSpec) → slice_get (specs_of words) k ≡ Some spec
+      → (box : Box) × GivesBox spec box (area_read k bytes)
 
 -- between two moments no call on the disk failed, and no listening or accepting of the door
 pub record NoneFailed (start now : DiskState) (from door : Port) : Type 0 where

@@ -3,10 +3,9 @@
 ghost use Rattle.std.specs.Prelude.{◌≡◌, ◌≤◌, length, map, IfErr, IfOk, OnOk};
 ghost use Rattle.std.specs.List.{list_any};
 ghost use Rattle.std.specs.Str.{bytes_eq};
-ghost use Rattle.relay_core.specs.Specs.{names_of};
 ghost use Rattle.relay_core.specs.declared.limits.TheConstants.{RELAY_LIMIT};
 ghost use Rattle.relay_wire.specs.Names.{is_name};
-ghost use Rattle.relay_command.specs.Names.{AreNames, IsFirstBad, is_box_name};
+ghost use Rattle.relay_command.specs.Names.{AreNames, IsFirstBad, is_box_name, specs_of};
 
 use relay_core::{BoxSpec, RELAY_LIMIT};
 use relay_wire::Name;
@@ -56,12 +55,12 @@ pub(crate) fn check_names(words: &[&str]) -> Result<(), u32>
 /// What the boxes of these names are made by.
 pub(crate) fn specs_of(alloc: Global, words: &[&str]) -> Result<Vec<BoxSpec>, AllocError>
     requires { AreNames (map (λ w. w.now) words.now) }
-    ensures { IfOk result (λ specs. names_of specs.items ≡ map (λ w. w.now) words.now) }
+    ensures { IfOk result (λ specs. specs.items ≡ specs_of (map (λ w. w.now) words.now)) }
 {
     let mut specs = Vec::new(alloc);
     'words: for word in words {
         match Name::new(word.as_bytes()) {
-            Some(name) => specs.push(BoxSpec { name })?,
+            Some(name) => specs.push(BoxSpec { name, keys: None })?,
             None => unreachable!(),
         }
     }

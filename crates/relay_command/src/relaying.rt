@@ -24,7 +24,8 @@ pub const RELAY_DISK_SIZE: u64 = UPPER_START + HALF_SIZE * RELAY_LIMIT as u64;
 
 /// How the command ends where the look is refused. Boxes are counted from 1 here.
 fn unopened(error: ServerOpenError) -> Ending
-    requires { (k : ℕ) → error ≡ ServerOpenError.BoxName k → k < RELAY_LIMIT }
+    requires name { (k : ℕ) → error ≡ ServerOpenError.BoxName k → k < RELAY_LIMIT }
+    requires keys { (k : ℕ) → error ≡ ServerOpenError.BoxKeys k → k < RELAY_LIMIT }
     ensures { result ≡ ending_after_look error }
 {
     match error {
@@ -32,6 +33,7 @@ fn unopened(error: ServerOpenError) -> Ending
         ServerOpenError::StoreFault { .. } => Ending::DiskFault,
         ServerOpenError::Damaged { area, slot, at } => Ending::DamagedArea { area, slot, at },
         ServerOpenError::BoxName { k } => Ending::BoxName(k + 1),
+        ServerOpenError::BoxKeys { k } => Ending::BoxKeys(k + 1),
     }
 }
 
@@ -58,8 +60,8 @@ fn look<A: Disk>(alloc: Global, boxes: &[&str], disk: &mut A) -> Result<Looked, 
 ///
 /// The words are looked at first: `BadBox K` exactly where the K-th, from 1, is the first that is
 /// no lawful name, equals one before it, or is the 17th. Then the areas are looked at: want of
-/// memory, `DiskFault`, `DamagedArea` and `BoxName` as `relay_server::Server::look` tells them,
-/// with boxes counted from 1. Only then is the door touched: it listens at the port. `LinkFault`
+/// memory, `DiskFault`, `DamagedArea`, `BoxName` and `BoxKeys` as
+/// `relay_server::Server::look` tells them, with boxes counted from 1. Only then is the door touched: it listens at the port. `LinkFault`
 /// where it couldn't, and then no record was put, and no byte written where the areas were read at
 /// rest or as zeros. Once it listens, each area without a record gets an empty box's, and each
 /// connection is accepted, served and ended, also where a call on it or on the disk failed.

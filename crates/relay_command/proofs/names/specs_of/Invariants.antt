@@ -1,7 +1,7 @@
--- the names so far are the words
+-- a spec for each word so far
 use Rattle.std.proofs.Common.{◌≡◌, map, take}
-use Rattle.relay_core.specs.Specs.{names_of}
+use Rattle.relay_command.specs.Names.{specs_of}
 use Rattle.relay_command.proofs.names.specs_of.Given as goal
 
 abbrev pub invariant-words : goal.invariant-words
-invariant-words l = names_of l.specs.items ≡ map (λ w. w.now) (take l.word-index l.words)
+invariant-words l = l.specs.items ≡ specs_of (map (λ w. w.now) (take l.word-index l.words))
