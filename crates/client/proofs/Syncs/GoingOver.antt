@@ -68,6 +68,10 @@ posted_packets box (packet ∷ packets) =
     ∙ ap (λ (l : List (List ℕ)). l ++ packets) (map-append (λ (kept : Kept). kept.packet) box.packets (record { number = box.last + 1; packet = packet } ∷ []))
     ∙ append_assoc (map (λ (kept : Kept). kept.packet) box.packets) (packet ∷ []) packets
 
+posted_guard : (box : Box) (packets : List (List ℕ)) → (with_posts box packets).guard ≡ box.guard
+posted_guard box [] = refl
+posted_guard box (packet ∷ packets) = posted_guard (with_packet box packet) packets
+
 pub goes_over : (k : Mechanism) → GoesOver k
 goes_over k = λ prefix again w v side sender receiver boxes own peers replies others ps sends receives same transfers opens has room fits first next holds expected.
     let out : waiting sender ≡ map (λ (p : Position). (post_at k w.conversation p).packet) (positions_of sender) =
@@ -89,4 +93,6 @@ goes_over k = λ prefix again w v side sender receiver boxes own peers replies o
       lawful = subst (λ (bs : List Box). All IsLawfulBox bs) there delivered.answered.lawful;
       own_box = ap (λ (n : List ℕ). box_of n after) own_is ∙ ap (box_of (peers_box sender)) (sym there) ∙ delivered.peers_box;
       peers_box = ap (λ (n : List ℕ). box_of n after) peers_is ∙ ap (box_of (own_box sender)) (sym there) ∙ delivered.own_box;
+      own_open = posted_guard peers (waiting sender) ∙ has.peers_open;
+      peers_open = has.own_open;
     }) next.carried next.past (ps ++ positions_of sender) whole expected).1

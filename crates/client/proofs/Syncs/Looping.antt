@@ -4,7 +4,7 @@ use Rattle.std.specs.Prelude.{if◌then◌else◌, length, map, slice_get}
 use Rattle.std.proofs.lemmas.Bool.Decides.{nat_tests}
 use Rattle.boxes.specs.Posts.{Post}
 use Rattle.dr_ports.specs.Wires.{Port}
-use Rattle.relay_wire.specs.Requests.{Asked, posts}
+use Rattle.relay_wire.specs.Requests.{Asked, posts, bare_request}
 use Rattle.session_model.specs.Clients.{Client}
 use Rattle.sync_model.specs.Moves.{Wait, acking, acknowledged, ended, fetching, goes, move, over, posting, posting_of, waits_by}
 use Rattle.sync_model.specs.Parties.{Party}
@@ -63,9 +63,9 @@ posts_now [] packet is which = absurd (let e : Some packet ≡ None = is in cc)
 posts_now (x ∷ xs) packet is which = refl
 
 pub asks_post : (packets : List (List ℕ)) (packet : List ℕ) → Some packet ≡ slice_get packets 0 → (name : List ℕ)
-    → posting_of name packets ≡ Some (record { name = name; ask = posts packet })
+    → posting_of name packets ≡ Some (bare_request name (posts packet))
 asks_post [] packet is name = absurd (let e : Some packet ≡ None = is in cc)
-asks_post (x ∷ xs) packet is name = ap (λ (b : List ℕ). Some (record { name = name; ask = posts b })) (let e : Some packet ≡ Some x = is in let f : x ≡ packet = cc in f)
+asks_post (x ∷ xs) packet is name = ap (λ (b : List ℕ). Some (bare_request name (posts b))) (let e : Some packet ≡ Some x = is in let f : x ≡ packet = cc in f)
 
 -- a round that the sync goes on after leaves the client open and ready
 pub goes_ready : (p : Party Client) (wait next : Wait) (asked : Asked) (a b : Moment) (start now : Port) → IsRound p wait asked a b start now (goes_on next)

@@ -7,7 +7,7 @@ use Rattle.dr_model.specs.Machines.WorldActs.{act_in}
 use Rattle.dr_model.specs.Machines.Worlds.{World}
 use Rattle.dr_model.specs.Theorems.Fairness.{IsUnforged}
 use Rattle.kem_laws.specs.Mechanism.{Mechanism}
-use Rattle.relay_wire.specs.Replies.{Replied, absent, acked, bad, box_full, empty, item, stored, unknown}
+use Rattle.relay_wire.specs.Replies.{Replied, absent, acked, bad, denied, box_full, empty, item, stored, unknown}
 use Rattle.sync_model.specs.Courses.{Course, course_from, read_one}
 use Rattle.sync_model.specs.Moves.{Move, Wait, acking, acknowledged, fetching, move, over, posting}
 use Rattle.sync_model.specs.Parties.{Party}
@@ -49,6 +49,7 @@ module _ (k : Mechanism) (prefix : List ℕ) (side : Side) (first : World) where
     move_leads s (fetching n) unknown fair = holds.none s
     move_leads s (fetching n) (absent m) fair = holds.none s
     move_leads s (fetching n) (bad kind) fair = holds.none s
+    move_leads s (fetching n) (denied rule last) fair = holds.none s
     move_leads s (acking n number) acked fair = acknowledged_leads s n
     move_leads s (acking n number) (absent m) fair = either_leads s (m == number) _ _ (acknowledged_leads s n) (holds.none s)
     move_leads s (acking n number) (item m packet) fair = holds.none s
@@ -57,6 +58,7 @@ module _ (k : Mechanism) (prefix : List ℕ) (side : Side) (first : World) where
     move_leads s (acking n number) box_full fair = holds.none s
     move_leads s (acking n number) unknown fair = holds.none s
     move_leads s (acking n number) (bad kind) fair = holds.none s
+    move_leads s (acking n number) (denied rule last) fair = holds.none s
     move_leads s (posting which) (stored number) fair = holds.sends s
     move_leads s (posting which) (item m packet) fair = holds.none s
     move_leads s (posting which) empty fair = holds.none s
@@ -65,6 +67,7 @@ module _ (k : Mechanism) (prefix : List ℕ) (side : Side) (first : World) where
     move_leads s (posting which) unknown fair = holds.none s
     move_leads s (posting which) (absent m) fair = holds.none s
     move_leads s (posting which) (bad kind) fair = holds.none s
+    move_leads s (posting which) (denied rule last) fair = holds.none s
     move_leads s (over ending) reply fair = holds.none s
 
     -- a course, with each reply

@@ -4,7 +4,7 @@ use Rattle.std.proofs.Common.{List, [], ap, arith, drop, refl, ℕ, ◌+◌, ◌
 use Rattle.std.specs.List.{sum_by}
 use Rattle.std.proofs.lemmas.List.{drop-drop}
 use Rattle.std.proofs.lemmas.List.Sums.{sum_by-append, sum_by-cons}
-use Rattle.relay_wire.specs.Replies.{Replied, absent, acked, bad, box_full, empty, item, stored, unknown}
+use Rattle.relay_wire.specs.Replies.{Replied, absent, acked, bad, denied, box_full, empty, item, stored, unknown}
 use Rattle.relay_wire.specs.Requests.{Asked}
 use Rattle.sync_model.specs.Courses.{Course, as_list, begun, course_from, course_of, made_requests, read_one}
 use Rattle.sync_model.specs.Moves.{Move, Wait, acking, asked_in, box_is_full, fetching, goes, move, no_such_box, over, posting, posting_of, waits_by, wrong}
@@ -61,6 +61,7 @@ module _ {S : Type 0} (p : Party S) where
     move_tally s (fetching n) unknown = idle s 0 (over no_such_box) refl
     move_tally s (fetching n) (absent m) = idle s 0 (over wrong) refl
     move_tally s (fetching n) (bad kind) = idle s 0 (over wrong) refl
+    move_tally s (fetching n) (denied rule last) = idle s 0 (over wrong) refl
     move_tally s (acking n number) reply =
         acked_by p s (IsTally s (kept_count reply)) (λ ending. idle s (kept_count reply) (over ending) refl) n number
         (acknowledged_by p s (IsTally s (kept_count reply)) (λ ending. idle s (kept_count reply) (over ending) refl) n
@@ -79,6 +80,7 @@ module _ {S : Type 0} (p : Party S) where
     move_tally s (posting which) unknown = idle s 0 (over no_such_box) refl
     move_tally s (posting which) (absent m) = idle s 0 (over wrong) refl
     move_tally s (posting which) (bad kind) = idle s 0 (over wrong) refl
+    move_tally s (posting which) (denied rule last) = idle s 0 (over wrong) refl
     move_tally s (over ending) reply = idle s (kept_count reply) (over ending) refl
 
     one_more : (c : Course S) (packets : List (List ℕ)) (count : ℕ) (reply : Replied) → IsTallied c packets count

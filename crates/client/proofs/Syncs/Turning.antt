@@ -10,7 +10,7 @@ use Rattle.relay_wire.specs.Replies.{Replied, acked, absent}
 use Rattle.relay_wire.specs.Requests.{Asked}
 use Rattle.relay_wire.specs.Seen.{replied_of}
 use Rattle.relay_wire.specs.declared.reply.Reply.{Reply}
-use Rattle.relay_wire.specs.declared.reply.Reply.TheVariants.{Stored, Item, Empty, Acked, BoxFull, Unknown, Absent, Bad}
+use Rattle.relay_wire.specs.declared.reply.Reply.TheVariants.{Stored, Item, Empty, Acked, BoxFull, Unknown, Absent, Bad, Denied}
 use Rattle.session_model.specs.Clients.{Client}
 use Rattle.sync_model.specs.Moves.{Ending, Move, Wait, acking, acknowledged, fetching, goes, move, over, posting, waits_by, wrong}
 use Rattle.sync_model.specs.Parties.{Party}
@@ -88,6 +88,7 @@ module _ (p : Party Client) (s : Client) (n number : ℕ) where
   idle_wrong Unknown not_acked not_unknown not_absent = absurd (not_unknown refl)
   idle_wrong (Absent m) not_acked not_unknown not_absent = absurd (not_absent m refl)
   idle_wrong (Bad kind) not_acked not_unknown not_absent = idles_to_end wrong (Peer 2 Wrong) refl refl
+  idle_wrong (Denied refusal) not_acked not_unknown not_absent = idles_to_end wrong (Peer 2 Wrong) refl refl
 
   -- ---- of a fetch and of a post
 
@@ -101,6 +102,7 @@ module _ (p : Party Client) (s : Client) (n number : ℕ) where
   fetched_wrong Unknown not_empty not_unknown not_item = absurd (not_unknown refl)
   fetched_wrong (Absent m) not_empty not_unknown not_item = idles_to_end wrong (Peer 2 Wrong) refl refl
   fetched_wrong (Bad kind) not_empty not_unknown not_item = idles_to_end wrong (Peer 2 Wrong) refl refl
+  fetched_wrong (Denied refusal) not_empty not_unknown not_item = idles_to_end wrong (Peer 2 Wrong) refl refl
 
 pub posted_wrong : (p : Party Client) (s : Client) (which : More) (reply : Reply) → (reply ≡ BoxFull → ⊥) → (reply ≡ Unknown → ⊥) → ((m : ℕ) → reply ≡ Stored m → ⊥)
     → Idles p s (move p s (posting which) (replied_of reply)) (stops (Peer 2 Wrong))
@@ -112,6 +114,7 @@ posted_wrong p s which BoxFull not_full not_unknown not_stored = absurd (not_ful
 posted_wrong p s which Unknown not_full not_unknown not_stored = absurd (not_unknown refl)
 posted_wrong p s which (Absent m) not_full not_unknown not_stored = idles_to_end wrong (Peer 2 Wrong) refl refl
 posted_wrong p s which (Bad kind) not_full not_unknown not_stored = idles_to_end wrong (Peer 2 Wrong) refl refl
+posted_wrong p s which (Denied refusal) not_full not_unknown not_stored = idles_to_end wrong (Peer 2 Wrong) refl refl
 
 -- ---- a request
 

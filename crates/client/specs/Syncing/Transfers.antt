@@ -1,5 +1,5 @@
 -- A sync whose replies are those of a relay.
-use Rattle.std.specs.Prelude.{All, List, Some, [], length, ℕ, ◌++◌, ◌≡◌}
+use Rattle.std.specs.Prelude.{All, List, None, Some, [], length, ℕ, ◌++◌, ◌≡◌}
 use Rattle.dr_base.specs.Causes.{Rose}
 use Rattle.dr_disk.specs.declared.call.Call.{Call}
 use Rattle.dr_ports.specs.Wires.{Port, Told}
@@ -19,11 +19,13 @@ use Rattle.client.specs.Syncing.Moments.{Moment}
 
 -- ---- the relay, its link, and no fault
 
--- the relay has the client's box and its peer's, among lawful ones
+-- the relay has the client's box and its peer's, among lawful ones, and neither has a guard
 pub record HasBoxes (p : Party Client) (boxes : List Box) (own peers : Box) : Type 0 where
   pub lawful : All IsLawfulBox boxes
   pub own_box : box_of p.own boxes ≡ Some own
   pub peers_box : box_of p.peers boxes ≡ Some peers
+  pub own_open : own.guard ≡ None
+  pub peers_open : peers.guard ≡ None
 
 -- after what it gave so far, the link gives what a relay with these boxes replies to all that is sent from now on
 pub record CarriesReplies (boxes : List Box) (start : Port) : Type 0 where

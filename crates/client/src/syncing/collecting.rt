@@ -3,7 +3,7 @@
 ghost use Rattle.std.specs.Prelude.{◌≡◌, ◌≤◌, ℕ, IfOk, List};
 ghost use Rattle.relay_pipe.specs.Asking.{LeavesLink};
 ghost use Rattle.relay_wire.specs.Replies.{item};
-ghost use Rattle.relay_wire.specs.Requests.{acks, fetches};
+ghost use Rattle.relay_wire.specs.Requests.{acks, fetches, bare_request};
 ghost use Rattle.relay_wire.specs.Seen.{replied_of};
 ghost use Rattle.session_model.specs.Clients.{Client as Kept};
 ghost use Rattle.sync_model.specs.Moves.{acking, acknowledged, fetching, move};
@@ -89,7 +89,7 @@ impl<K: Kem> Client<K> {
         requires { IsOpenOn self.old (D.state disk.old) }
         ensures round { (n : ℕ)
             → IsRound (party_of K.mechanism prefix.now names.now.own names.now.peers)
-            (fetching n) (record { name = names.now.own; ask = fetches })
+            (fetching n) (bare_request names.now.own fetches)
             (moment self.old (D.state disk.old) (O.at out.old))
             (moment self.new (D.state disk.new) (O.at out.new))
             (L.port link.old) (L.port link.new) (fetched_as (waiting self.new.kept) n result) }
@@ -118,7 +118,7 @@ impl<K: Kem> Client<K> {
         number: u64,
     ) -> Result<(), SyncFault>
         ensures round { (p : Party Kept) (kept : Kept) (n : ℕ) →
-            Hears (record { name = names.now.own; ask = acks number }) (L.port link.old)
+            Hears (bare_request names.now.own (acks number)) (L.port link.old)
             (L.port link.new)
             (λ reply turn. Idles p kept (move p kept (acking n number) reply) turn) (Unit {0})
             (round_turn (acknowledged p kept n).wait result) }

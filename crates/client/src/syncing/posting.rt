@@ -3,7 +3,7 @@
 ghost use Rattle.std.specs.Prelude.{◌≡◌, ◌↔◌, ◌<◌, ◌≤◌, IsTrue, OnOk, Some, length, slice_get, ℕ, List};
 ghost use Rattle.relay_pipe.specs.Asking.{LeavesLink};
 ghost use Rattle.relay_wire.specs.Replies.{stored};
-ghost use Rattle.relay_wire.specs.Requests.{posts};
+ghost use Rattle.relay_wire.specs.Requests.{posts, bare_request};
 ghost use Rattle.sync_model.specs.Moves.{move, posting, waits_by};
 ghost use Rattle.sync_model.specs.declared.more.More.{More};
 ghost use Rattle.client.specs.Clients.{ClientNow, IsOpenOn};
@@ -72,7 +72,7 @@ impl<K: Kem> Client<K> {
         ensures round { (more : More) (packet : List ℕ)
             → Some packet ≡ slice_get (waiting self.old.kept) 0
             → IsRound (party_of K.mechanism prefix.now names.now.own names.now.peers)
-            (posting more) (record { name = names.now.peers; ask = posts packet })
+            (posting more) (bare_request names.now.peers (posts packet))
             (moment self.old (D.state disk.old) (O.at out.old))
             (moment self.new (D.state disk.new) (O.at out.new))
             (L.port link.old) (L.port link.new)

@@ -1,6 +1,6 @@
 use Rattle.std.proofs.Common.{Result, ap, subst, sym, ◌∙◌}
 use Rattle.relay_wire.specs.Parts.{Lent}
-use Rattle.relay_wire.specs.Requests.{Asked, acks}
+use Rattle.relay_wire.specs.Requests.{Asked, acks, bare_request}
 use Rattle.relay_wire.specs.Seen.{asked_of}
 use Rattle.client.specs.Syncing.Rounds.{Hears, Idles, round_turn}
 use Rattle.client.specs.declared.syncing.faults.SyncFault.{SyncFault}
@@ -11,8 +11,8 @@ use Rattle.client.proofs.client.Client.acknowledge.Goals.{in-Err, in-Ok}
 
 pub returns-clause-round : goal.returns-clause-round
 returns-clause-round g c = λ p kept n.
-    let own : Asked = record { name = c.args.names.now.own; ask = acks c.args.number } in
-    let asked = c.ack.ensures ∙ ap (λ (l : Lent). record { name = l.bytes; ask = acks c.args.number }) c.lent.ensures in
+    let own : Asked = bare_request c.args.names.now.own (acks c.args.number) in
+    let asked = c.ack.ensures ∙ ap (λ (l : Lent). bare_request l.bytes (acks c.args.number)) c.lent.ensures in
     elim c.match-ask_for.branch [
       | in-Err w ↦
           subst (λ (r : Result Unit SyncFault). Hears own (g.L.Pipe.port c.args.link.now) (g.L.Pipe.port c.ask_for.new.link)

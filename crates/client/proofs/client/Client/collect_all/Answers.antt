@@ -1,5 +1,5 @@
 use Rattle.std.proofs.Common.{ap, arith, refl, subst, sym, ◌+◌, ◌∙◌}
-use Rattle.relay_wire.specs.Requests.{acks, fetches}
+use Rattle.relay_wire.specs.Requests.{acks, fetches, bare_request}
 use Rattle.sync_model.specs.Moves.{acking, acknowledged, fetching, waits_by}
 use Rattle.sync_model.specs.declared.more.More.TheVariants.{End}
 use Rattle.client.specs.Clients.{ClientNow}
@@ -31,7 +31,7 @@ returns-in-Err-clause-collects g c =
     (spot c.args.self.now c.args.disk.now c.args.link.now c.args.out.now) (spot c.items.self c.items.disk c.items.link c.items.out))
     (fetches_now (waiting c.items.self.kept) c.items.count c.items-test.true) c.items.invariant.along)
     (spot c.fetch.new.self c.fetch.new.disk c.fetch.new.link c.fetch.new.out)
-    (record { name = c.args.names.now.own; ask = fetches }) refl (stops c.in-Err.fault)
+    (bare_request c.args.names.now.own fetches) refl (stops c.in-Err.fault)
     (c.in-Err.ensures.round c.items.count)
 
 pub returns-in-Ok-None-clause-collects : goal.returns-in-Ok-None-clause-collects
@@ -42,7 +42,7 @@ returns-in-Ok-None-clause-collects g c =
     (spot c.args.self.now c.args.disk.now c.args.link.now c.args.out.now) (spot c.items.self c.items.disk c.items.link c.items.out))
     (fetches_now (waiting c.items.self.kept) c.items.count c.items-test.true) c.items.invariant.along)
     (spot c.fetch.new.self c.fetch.new.disk c.fetch.new.link c.fetch.new.out)
-    (record { name = c.args.names.now.own; ask = fetches }) refl (goes_on (waits_by (waiting c.fetch.new.self.kept) End))
+    (bare_request c.args.names.now.own fetches) refl (goes_on (waits_by (waiting c.fetch.new.self.kept) End))
     ((rw c.in-Ok-None.field-0-is at c.in-Ok-None.ensures.round) c.items.count)
 
 pub returns-in-Err-acknowledge-clause-collects : goal.returns-in-Err-acknowledge-clause-collects
@@ -55,13 +55,13 @@ returns-in-Err-acknowledge-clause-collects g c =
     (spot c.args.self.now c.args.disk.now c.args.link.now c.args.out.now) (spot c.items.self c.items.disk c.items.link c.items.out))
     (fetches_now (waiting c.items.self.kept) c.items.count c.items-test.true) c.items.invariant.along)
     (spot c.fetch.new.self c.fetch.new.disk c.fetch.new.link c.fetch.new.out)
-    (record { name = c.args.names.now.own; ask = fetches }) refl (goes_on (acking c.items.count c.in-Ok-Some.number))
+    (bare_request c.args.names.now.own fetches) refl (goes_on (acking c.items.count c.in-Ok-Some.number))
     ((rw c.in-Ok-Some.field-0-is at c.in-Ok-Some.ensures.round) c.items.count) in
     goes_in_order g.D.Disk.state g.L.Pipe.port g.O.Sink.at
     (party_of g.K.Kem.mechanism c.args.prefix.now c.args.names.now.own c.args.names.now.peers) (spot c.args.self.now c.args.disk.now c.args.link.now c.args.out.now) (spot c.fetch.new.self c.fetch.new.disk c.fetch.new.link c.fetch.new.out) (acking c.items.count c.in-Ok-Some.number) along (spot c.acknowledge.new.self c.fetch.new.disk c.acknowledge.new.link c.fetch.new.out)
-    (record { name = c.args.names.now.own; ask = acks c.in-Ok-Some.number }) refl (stops c.in-Err-acknowledge.fault)
+    (bare_request c.args.names.now.own (acks c.in-Ok-Some.number)) refl (stops c.in-Err-acknowledge.fault)
     (acks_round (party_of g.K.Kem.mechanism c.args.prefix.now c.args.names.now.own c.args.names.now.peers) (moment c.fetch.new.self (g.D.Disk.state c.fetch.new.disk) (g.O.Sink.at c.fetch.new.out))
-    c.acknowledge.new.self c.items.count c.in-Ok-Some.number (record { name = c.args.names.now.own; ask = acks c.in-Ok-Some.number })
+    c.acknowledge.new.self c.items.count c.in-Ok-Some.number (bare_request c.args.names.now.own (acks c.in-Ok-Some.number))
     (g.L.Pipe.port c.fetch.new.link) (g.L.Pipe.port c.acknowledge.new.link) (stops c.in-Err-acknowledge.fault)
     c.acknowledge.ensures.same along.far.stands.is_open along.far.stands.ready
     (c.in-Err-acknowledge.ensures.round (party_of g.K.Kem.mechanism c.args.prefix.now c.args.names.now.own c.args.names.now.peers) c.fetch.new.self.kept c.items.count))
@@ -81,14 +81,14 @@ items-preserved g c = record {
       (spot c.args.self.now c.args.disk.now c.args.link.now c.args.out.now) (spot c.items.self c.items.disk c.items.link c.items.out))
       (fetches_now (waiting c.items.self.kept) c.items.count c.items-test.true) c.items.invariant.along)
       (spot c.fetch.new.self c.fetch.new.disk c.fetch.new.link c.fetch.new.out)
-      (record { name = c.args.names.now.own; ask = fetches }) refl (goes_on (acking c.items.count c.in-Ok-Some.number))
+      (bare_request c.args.names.now.own fetches) refl (goes_on (acking c.items.count c.in-Ok-Some.number))
       ((rw c.in-Ok-Some.field-0-is at c.in-Ok-Some.ensures.round) c.items.count) in
       goes_in_order g.D.Disk.state g.L.Pipe.port g.O.Sink.at
       (party_of g.K.Kem.mechanism c.args.prefix.now c.args.names.now.own c.args.names.now.peers) (spot c.args.self.now c.args.disk.now c.args.link.now c.args.out.now) (spot c.fetch.new.self c.fetch.new.disk c.fetch.new.link c.fetch.new.out) (acking c.items.count c.in-Ok-Some.number) along (spot c.acknowledge.new.self c.fetch.new.disk c.acknowledge.new.link c.fetch.new.out)
-      (record { name = c.args.names.now.own; ask = acks c.in-Ok-Some.number }) refl
+      (bare_request c.args.names.now.own (acks c.in-Ok-Some.number)) refl
       (goes_on (acknowledged (party_of g.K.Kem.mechanism c.args.prefix.now c.args.names.now.own c.args.names.now.peers) c.fetch.new.self.kept c.items.count).wait)
       (acks_round (party_of g.K.Kem.mechanism c.args.prefix.now c.args.names.now.own c.args.names.now.peers) (moment c.fetch.new.self (g.D.Disk.state c.fetch.new.disk) (g.O.Sink.at c.fetch.new.out))
-      c.acknowledge.new.self c.items.count c.in-Ok-Some.number (record { name = c.args.names.now.own; ask = acks c.in-Ok-Some.number })
+      c.acknowledge.new.self c.items.count c.in-Ok-Some.number (bare_request c.args.names.now.own (acks c.in-Ok-Some.number))
       (g.L.Pipe.port c.fetch.new.link) (g.L.Pipe.port c.acknowledge.new.link) (goes_on (acknowledged (party_of g.K.Kem.mechanism c.args.prefix.now c.args.names.now.own c.args.names.now.peers) c.fetch.new.self.kept c.items.count).wait)
       c.acknowledge.ensures.same along.far.stands.is_open along.far.stands.ready
       (c.in-Ok.ensures.round (party_of g.K.Kem.mechanism c.args.prefix.now c.args.names.now.own c.args.names.now.peers) c.fetch.new.self.kept c.items.count)));

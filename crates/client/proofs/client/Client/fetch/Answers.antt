@@ -1,6 +1,6 @@
 use Rattle.std.proofs.Common.{List, ap, refl, subst, sym, ℕ, ◌∙◌}
 use Rattle.relay_wire.specs.Parts.{Lent}
-use Rattle.relay_wire.specs.Requests.{fetches}
+use Rattle.relay_wire.specs.Requests.{fetches, bare_request}
 use Rattle.relay_wire.specs.Seen.{asked_of, replied_of}
 use Rattle.relay_wire.specs.declared.reply.Reply.{Reply}
 use Rattle.relay_pipe.specs.declared.faults.PeerKind.TheVariants.{Wrong}
@@ -26,8 +26,8 @@ returns-in-Err-clause-round g c = λ n.
       store = c.self.inside.store;
       closed = c.self.inside.closed;
     } in
-    let asked = c.fetch.ensures ∙ ap (λ (l : Lent). record { name = l.bytes; ask = fetches }) c.lent.ensures in
-    hears_fault (asked_of c.fetch.result) (record { name = c.args.names.now.own; ask = fetches }) asked
+    let asked = c.fetch.ensures ∙ ap (λ (l : Lent). bare_request l.bytes fetches) c.lent.ensures in
+    hears_fault (asked_of c.fetch.result) (bare_request c.args.names.now.own fetches) asked
     (g.L.Pipe.port c.args.link.now) (g.L.Pipe.port c.ask_for.new.link)
     (λ reply then. MovesTo (move p c.args.self.now.kept (fetching n) reply) before (moment client (g.D.Disk.state c.args.disk.now) (g.O.Sink.at c.args.out.now)) then) (IsUnmoved before (moment client (g.D.Disk.state c.args.disk.now) (g.O.Sink.at c.args.out.now)))
     c.in-Err.fault c.in-Err.ensures.answers (still_again before client c.self.view_is c.requires.0 c.requires.1)
@@ -41,8 +41,8 @@ returns-in-Empty-clause-round g c = λ n.
       store = c.self.inside.store;
       closed = c.self.inside.closed;
     } in
-    let asked = c.fetch.ensures ∙ ap (λ (l : Lent). record { name = l.bytes; ask = fetches }) c.lent.ensures in
-    hears_reply (asked_of c.fetch.result) (record { name = c.args.names.now.own; ask = fetches }) asked
+    let asked = c.fetch.ensures ∙ ap (λ (l : Lent). bare_request l.bytes fetches) c.lent.ensures in
+    hears_reply (asked_of c.fetch.result) (bare_request c.args.names.now.own fetches) asked
     (g.L.Pipe.port c.args.link.now) (g.L.Pipe.port c.ask_for.new.link)
     (λ reply then. MovesTo (move p c.args.self.now.kept (fetching n) reply) before (moment client (g.D.Disk.state c.args.disk.now) (g.O.Sink.at c.args.out.now)) then) (IsUnmoved before (moment client (g.D.Disk.state c.args.disk.now) (g.O.Sink.at c.args.out.now)))
     c.in-Ok.reply (goes_on (waits_by (waiting client.kept) End)) c.in-Ok.ensures.answers
@@ -57,11 +57,11 @@ returns-in-Item-clause-round g c = λ n.
     let with_core : Client → ClientNow = λ kept. record { kept = kept; store = c.self.inside.store; closed = c.self.inside.closed } in
     let client = with_core c.draft_take-drafted.new.self in
     let same = ap with_core c.draft_take-drafted.ensures.same ∙ c.self.view_is in
-    let asked = c.fetch.ensures ∙ ap (λ (l : Lent). record { name = l.bytes; ask = fetches }) c.lent.ensures in
+    let asked = c.fetch.ensures ∙ ap (λ (l : Lent). bare_request l.bytes fetches) c.lent.ensures in
     let drafts = subst (λ (packet : List ℕ). DraftsFor g.K.Kem.mechanism client.kept packet c.draft_take-drafted.result) c.bytes.ensures.value
     (subst (λ (kept : Client). DraftsFor g.K.Kem.mechanism kept c.bytes.result.now c.draft_take-drafted.result) (sym c.draft_take-drafted.ensures.same)
     c.draft_take-drafted.ensures.exact) in
-    hears_reply (asked_of c.fetch.result) (record { name = c.args.names.now.own; ask = fetches }) asked
+    hears_reply (asked_of c.fetch.result) (bare_request c.args.names.now.own fetches) asked
     (g.L.Pipe.port c.args.link.now) (g.L.Pipe.port c.ask_for.new.link)
     (λ reply then. MovesTo (move p c.args.self.now.kept (fetching n) reply) before (moment c.collect.new.self (g.D.Disk.state c.collect.new.disk) (g.O.Sink.at c.collect.new.out)) then) (IsUnmoved before (moment c.collect.new.self (g.D.Disk.state c.collect.new.disk) (g.O.Sink.at c.collect.new.out)))
     c.in-Ok.reply (fetched_as (waiting c.collect.new.self.kept) n c.collect.result) c.in-Ok.ensures.answers
@@ -78,8 +78,8 @@ returns-in-Unknown-clause-round g c = λ n.
       store = c.self.inside.store;
       closed = c.self.inside.closed;
     } in
-    let asked = c.fetch.ensures ∙ ap (λ (l : Lent). record { name = l.bytes; ask = fetches }) c.lent.ensures in
-    hears_reply (asked_of c.fetch.result) (record { name = c.args.names.now.own; ask = fetches }) asked
+    let asked = c.fetch.ensures ∙ ap (λ (l : Lent). bare_request l.bytes fetches) c.lent.ensures in
+    hears_reply (asked_of c.fetch.result) (bare_request c.args.names.now.own fetches) asked
     (g.L.Pipe.port c.args.link.now) (g.L.Pipe.port c.ask_for.new.link)
     (λ reply then. MovesTo (move p c.args.self.now.kept (fetching n) reply) before (moment client (g.D.Disk.state c.args.disk.now) (g.O.Sink.at c.args.out.now)) then) (IsUnmoved before (moment client (g.D.Disk.state c.args.disk.now) (g.O.Sink.at c.args.out.now)))
     c.in-Ok.reply (stops (Refused Unknown)) c.in-Ok.ensures.answers
@@ -95,8 +95,8 @@ returns-in_default-clause-round g c = λ n.
       store = c.self.inside.store;
       closed = c.self.inside.closed;
     } in
-    let asked = c.fetch.ensures ∙ ap (λ (l : Lent). record { name = l.bytes; ask = fetches }) c.lent.ensures in
-    hears_reply (asked_of c.fetch.result) (record { name = c.args.names.now.own; ask = fetches }) asked
+    let asked = c.fetch.ensures ∙ ap (λ (l : Lent). bare_request l.bytes fetches) c.lent.ensures in
+    hears_reply (asked_of c.fetch.result) (bare_request c.args.names.now.own fetches) asked
     (g.L.Pipe.port c.args.link.now) (g.L.Pipe.port c.ask_for.new.link)
     (λ reply then. MovesTo (move p c.args.self.now.kept (fetching n) reply) before (moment client (g.D.Disk.state c.args.disk.now) (g.O.Sink.at c.args.out.now)) then) (IsUnmoved before (moment client (g.D.Disk.state c.args.disk.now) (g.O.Sink.at c.args.out.now)))
     c.in-Ok.reply (stops (Peer 2 Wrong)) c.in-Ok.ensures.answers

@@ -1,7 +1,7 @@
 use Rattle.std.proofs.Common.{List, ap, ap₂, refl, subst, sym, ℕ, ◌∙◌}
 use Rattle.std.specs.Prelude.{slice_get}
 use Rattle.relay_wire.specs.Parts.{Lent}
-use Rattle.relay_wire.specs.Requests.{posts}
+use Rattle.relay_wire.specs.Requests.{posts, bare_request}
 use Rattle.relay_wire.specs.Seen.{asked_of, replied_of}
 use Rattle.relay_wire.specs.declared.reply.Reply.{Reply}
 use Rattle.relay_pipe.specs.declared.faults.PeerKind.TheVariants.{Wrong}
@@ -28,8 +28,8 @@ returns-in-Err-clause-round g c = λ which packet is.
     let oldest = same_oldest (waiting c.args.self.now.kept) c.oldest.result.bytes packet
     (c.oldest.ensures ∙ ap (λ (x : ClientNow). slice_get (waiting x.kept) 0) c.self.view_is) is in
     let asked = c.post-request.ensures
-    ∙ ap₂ (λ (l : Lent) (bytes : List ℕ). record { name = l.bytes; ask = posts bytes }) c.lent.ensures oldest in
-    hears_fault (asked_of c.post-request.result) (record { name = c.args.names.now.peers; ask = posts packet }) asked
+    ∙ ap₂ (λ (l : Lent) (bytes : List ℕ). bare_request l.bytes (posts bytes)) c.lent.ensures oldest in
+    hears_fault (asked_of c.post-request.result) (bare_request c.args.names.now.peers (posts packet)) asked
     (g.L.Pipe.port c.args.link.now) (g.L.Pipe.port c.ask_for.new.link)
     (λ reply then. MovesTo (move p c.args.self.now.kept (posting which) reply) before (moment client (g.D.Disk.state c.args.disk.now) (g.O.Sink.at c.args.out.now)) then) (IsUnmoved before (moment client (g.D.Disk.state c.args.disk.now) (g.O.Sink.at c.args.out.now)))
     c.in-Err.fault c.in-Err.ensures.answers (still_again before client c.self.view_is c.requires.open.0 c.requires.open.1)
@@ -46,8 +46,8 @@ returns-in-Stored-clause-round g c = λ which packet is.
     let oldest = same_oldest (waiting c.args.self.now.kept) c.oldest.result.bytes packet
     (c.oldest.ensures ∙ ap (λ (x : ClientNow). slice_get (waiting x.kept) 0) c.self.view_is) is in
     let asked = c.post-request.ensures
-    ∙ ap₂ (λ (l : Lent) (bytes : List ℕ). record { name = l.bytes; ask = posts bytes }) c.lent.ensures oldest in
-    hears_reply (asked_of c.post-request.result) (record { name = c.args.names.now.peers; ask = posts packet }) asked
+    ∙ ap₂ (λ (l : Lent) (bytes : List ℕ). bare_request l.bytes (posts bytes)) c.lent.ensures oldest in
+    hears_reply (asked_of c.post-request.result) (bare_request c.args.names.now.peers (posts packet)) asked
     (g.L.Pipe.port c.args.link.now) (g.L.Pipe.port c.ask_for.new.link)
     (λ reply then. MovesTo (move p c.args.self.now.kept (posting which) reply) before (moment c.delivered.new.self (g.D.Disk.state c.delivered.new.disk) (g.O.Sink.at c.delivered.new.out)) then) (IsUnmoved before (moment c.delivered.new.self (g.D.Disk.state c.delivered.new.disk) (g.O.Sink.at c.delivered.new.out)))
     c.in-Ok.reply (round_turn (waits_by (waiting c.delivered.new.self.kept) which) c.delivered.result) c.in-Ok.ensures.answers
@@ -67,8 +67,8 @@ returns-in-BoxFull-clause-round g c = λ which packet is.
     let oldest = same_oldest (waiting c.args.self.now.kept) c.oldest.result.bytes packet
     (c.oldest.ensures ∙ ap (λ (x : ClientNow). slice_get (waiting x.kept) 0) c.self.view_is) is in
     let asked = c.post-request.ensures
-    ∙ ap₂ (λ (l : Lent) (bytes : List ℕ). record { name = l.bytes; ask = posts bytes }) c.lent.ensures oldest in
-    hears_reply (asked_of c.post-request.result) (record { name = c.args.names.now.peers; ask = posts packet }) asked
+    ∙ ap₂ (λ (l : Lent) (bytes : List ℕ). bare_request l.bytes (posts bytes)) c.lent.ensures oldest in
+    hears_reply (asked_of c.post-request.result) (bare_request c.args.names.now.peers (posts packet)) asked
     (g.L.Pipe.port c.args.link.now) (g.L.Pipe.port c.ask_for.new.link)
     (λ reply then. MovesTo (move p c.args.self.now.kept (posting which) reply) before (moment client (g.D.Disk.state c.args.disk.now) (g.O.Sink.at c.args.out.now)) then) (IsUnmoved before (moment client (g.D.Disk.state c.args.disk.now) (g.O.Sink.at c.args.out.now)))
     c.in-Ok.reply (stops (Refused BoxFull)) c.in-Ok.ensures.answers
@@ -87,8 +87,8 @@ returns-in-Unknown-clause-round g c = λ which packet is.
     let oldest = same_oldest (waiting c.args.self.now.kept) c.oldest.result.bytes packet
     (c.oldest.ensures ∙ ap (λ (x : ClientNow). slice_get (waiting x.kept) 0) c.self.view_is) is in
     let asked = c.post-request.ensures
-    ∙ ap₂ (λ (l : Lent) (bytes : List ℕ). record { name = l.bytes; ask = posts bytes }) c.lent.ensures oldest in
-    hears_reply (asked_of c.post-request.result) (record { name = c.args.names.now.peers; ask = posts packet }) asked
+    ∙ ap₂ (λ (l : Lent) (bytes : List ℕ). bare_request l.bytes (posts bytes)) c.lent.ensures oldest in
+    hears_reply (asked_of c.post-request.result) (bare_request c.args.names.now.peers (posts packet)) asked
     (g.L.Pipe.port c.args.link.now) (g.L.Pipe.port c.ask_for.new.link)
     (λ reply then. MovesTo (move p c.args.self.now.kept (posting which) reply) before (moment client (g.D.Disk.state c.args.disk.now) (g.O.Sink.at c.args.out.now)) then) (IsUnmoved before (moment client (g.D.Disk.state c.args.disk.now) (g.O.Sink.at c.args.out.now)))
     c.in-Ok.reply (stops (Refused Unknown)) c.in-Ok.ensures.answers
@@ -107,8 +107,8 @@ returns-in_default-clause-round g c = λ which packet is.
     let oldest = same_oldest (waiting c.args.self.now.kept) c.oldest.result.bytes packet
     (c.oldest.ensures ∙ ap (λ (x : ClientNow). slice_get (waiting x.kept) 0) c.self.view_is) is in
     let asked = c.post-request.ensures
-    ∙ ap₂ (λ (l : Lent) (bytes : List ℕ). record { name = l.bytes; ask = posts bytes }) c.lent.ensures oldest in
-    hears_reply (asked_of c.post-request.result) (record { name = c.args.names.now.peers; ask = posts packet }) asked
+    ∙ ap₂ (λ (l : Lent) (bytes : List ℕ). bare_request l.bytes (posts bytes)) c.lent.ensures oldest in
+    hears_reply (asked_of c.post-request.result) (bare_request c.args.names.now.peers (posts packet)) asked
     (g.L.Pipe.port c.args.link.now) (g.L.Pipe.port c.ask_for.new.link)
     (λ reply then. MovesTo (move p c.args.self.now.kept (posting which) reply) before (moment client (g.D.Disk.state c.args.disk.now) (g.O.Sink.at c.args.out.now)) then) (IsUnmoved before (moment client (g.D.Disk.state c.args.disk.now) (g.O.Sink.at c.args.out.now)))
     c.in-Ok.reply (stops (Peer 2 Wrong)) c.in-Ok.ensures.answers

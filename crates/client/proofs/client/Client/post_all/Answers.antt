@@ -1,5 +1,5 @@
 use Rattle.std.proofs.Common.{arith, false, subst, sym, true, ◌∙◌, ◌≡◌}
-use Rattle.relay_wire.specs.Requests.{posts}
+use Rattle.relay_wire.specs.Requests.{posts, bare_request}
 use Rattle.sync_model.specs.Moves.{posting, waits_by}
 use Rattle.sync_model.specs.declared.more.More.TheVariants.{End}
 use Rattle.client.specs.Syncing.InOrder.{InOrder, spot}
@@ -22,7 +22,7 @@ returns-in-Err-clause-posts g c = λ which first before earlier empty along.
     (posts_now (waiting c.packets.self.kept) (one_waits c.packets.self.kept.outbox (c.waits.ensures.0 c.packets-test.true)).0 (one_waits c.packets.self.kept.outbox (c.waits.ensures.0 c.packets-test.true)).1 which)
     (c.packets.invariant.along which first before earlier empty along))
     (spot c.post.new.self c.post.new.disk c.post.new.link c.post.new.out)
-    (record { name = c.args.names.now.peers; ask = posts (one_waits c.packets.self.kept.outbox (c.waits.ensures.0 c.packets-test.true)).0 })
+    (bare_request c.args.names.now.peers (posts (one_waits c.packets.self.kept.outbox (c.waits.ensures.0 c.packets-test.true)).0))
     (asks_post (waiting c.packets.self.kept) (one_waits c.packets.self.kept.outbox (c.waits.ensures.0 c.packets-test.true)).0 (one_waits c.packets.self.kept.outbox (c.waits.ensures.0 c.packets-test.true)).1 c.args.names.now.peers)
     (stops c.in-Err.fault) (c.in-Err.ensures.round which (one_waits c.packets.self.kept.outbox (c.waits.ensures.0 c.packets-test.true)).0 (one_waits c.packets.self.kept.outbox (c.waits.ensures.0 c.packets-test.true)).1)
 
@@ -37,10 +37,10 @@ packets-preserved g c = record {
       (posts_now (waiting c.packets.self.kept) (one_waits c.packets.self.kept.outbox (c.waits.ensures.0 c.packets-test.true)).0 (one_waits c.packets.self.kept.outbox (c.waits.ensures.0 c.packets-test.true)).1 which)
       (c.packets.invariant.along which first before earlier empty along))
       (spot c.post.new.self c.post.new.disk c.post.new.link c.post.new.out)
-      (record { name = c.args.names.now.peers; ask = posts (one_waits c.packets.self.kept.outbox (c.waits.ensures.0 c.packets-test.true)).0 })
+      (bare_request c.args.names.now.peers (posts (one_waits c.packets.self.kept.outbox (c.waits.ensures.0 c.packets-test.true)).0))
       (asks_post (waiting c.packets.self.kept) (one_waits c.packets.self.kept.outbox (c.waits.ensures.0 c.packets-test.true)).0 (one_waits c.packets.self.kept.outbox (c.waits.ensures.0 c.packets-test.true)).1 c.args.names.now.peers)
       (goes_on (waits_by (waiting c.post.new.self.kept) which)) (c.in-Ok.ensures.round which (one_waits c.packets.self.kept.outbox (c.waits.ensures.0 c.packets-test.true)).0 (one_waits c.packets.self.kept.outbox (c.waits.ensures.0 c.packets-test.true)).1);
-  ready = goes_ready (party_of g.K.Kem.mechanism c.args.prefix.now c.args.names.now.own c.args.names.now.peers) (posting End) (waits_by (waiting c.post.new.self.kept) End) (record { name = c.args.names.now.peers; ask = posts (one_waits c.packets.self.kept.outbox (c.waits.ensures.0 c.packets-test.true)).0 })
+  ready = goes_ready (party_of g.K.Kem.mechanism c.args.prefix.now c.args.names.now.own c.args.names.now.peers) (posting End) (waits_by (waiting c.post.new.self.kept) End) (bare_request c.args.names.now.peers (posts (one_waits c.packets.self.kept.outbox (c.waits.ensures.0 c.packets-test.true)).0))
       (moment c.packets.self (g.D.Disk.state c.packets.disk) (g.O.Sink.at c.packets.out))
       (moment c.post.new.self (g.D.Disk.state c.post.new.disk) (g.O.Sink.at c.post.new.out))
       (g.L.Pipe.port c.packets.link) (g.L.Pipe.port c.post.new.link) (c.in-Ok.ensures.round End (one_waits c.packets.self.kept.outbox (c.waits.ensures.0 c.packets-test.true)).0 (one_waits c.packets.self.kept.outbox (c.waits.ensures.0 c.packets-test.true)).1);
