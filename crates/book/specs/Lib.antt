@@ -1,0 +1,13 @@
+pub mod Rows
+pub mod Books
+pub mod RowCells
+pub mod RowKeepings
+pub mod Changing
+pub mod Naming
+pub mod Showing
+pub mod Calling
+pub mod Beginning
+pub mod Forgetting
+pub mod Machines
+pub mod Stepping
+pub mod Witness

@@ -1,0 +1,23 @@
+//! Up to 32 sessions under names, kept in one store on a disk: an address book.
+//!
+//! Each call under a name is a step of that row's session alone, and replaces the row's record
+//! before it answers, so a crash at any moment leaves all rows as they were or as they are then. A
+//! call on the disk that fails closes the book, and the disk is opened again.
+//!
+//! What is answered under one name hangs on nothing that is asked under another (`laws`).
+#![tactic(auto)]
+
+pub use book::Book;
+pub use refusals::{BookBeginError, BookRefusal, ForgetError, NoName};
+
+mod beginning;
+mod book;
+mod dropping;
+mod keeping;
+pub mod laws;
+mod refusals;
+mod row;
+mod saying;
+mod shelf;
+mod storing;
+mod taking;
