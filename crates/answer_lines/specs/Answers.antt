@@ -10,6 +10,8 @@ use Rattle.session_model.specs.declared.answer.Items.TheVariants.{Packets, Texts
 use Rattle.session_model.specs.declared.answer.Refusal.{Refusal}
 use Rattle.session_model.specs.declared.answer.Refusal.TheVariants.{TextTooLong, OutboxFull, EpochFull, LastEpoch, NoPair, Malformed, OtherSession, OwnPacket, Ahead, Spent, Count, SkipLimit, BadTag, BadPadding, InboxFull, Fewer}
 use Rattle.session_model.specs.declared.answer.Summary.{Summary}
+use Rattle.session_model.specs.declared.answer.Which.{Which}
+use Rattle.session_model.specs.declared.answer.Which.TheVariants.{Oldest}
 
 -- `epoch.index`
 unfoldable pub position_text : Position → List ℕ
@@ -56,11 +58,15 @@ unfoldable pub drop_word : Items → List ℕ
 drop_word Packets = codes "sent "
 drop_word Texts = codes "done "
 
+-- what left a box
+unfoldable pub which_text : Which → List ℕ
+which_text (Oldest items n) = drop_word items ++ decimal n
+
 -- an answer in words
 unfoldable pub answer_text : Answer → List ℕ
 answer_text (Said p) = codes "said " ++ position_text p
 answer_text (Opened p) = codes "opened " ++ position_text p
-answer_text (Dropped items n) = drop_word items ++ decimal n
+answer_text (Dropped which) = which_text which
 answer_text (Inbox n) = codes "inbox " ++ decimal n
 answer_text (Awaiting n) = codes "awaiting " ++ decimal n
 answer_text (State s) = codes "state " ++ summary_text s

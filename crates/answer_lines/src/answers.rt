@@ -1,12 +1,12 @@
 //! Answers in words.
 
 ghost use Rattle.std.specs.Prelude.{◌≡◌, ℕ, ◌+◌, ◌≤◌, List, ◌++◌, length, codes, decimal};
-ghost use Rattle.answer_lines.specs.Answers.{position_text, kind_text, refusal_text, summary_text, drop_word, answer_text};
+ghost use Rattle.answer_lines.specs.Answers.{position_text, kind_text, refusal_text, summary_text, drop_word, which_text, answer_text};
 
 use dr_base::Position;
 use dr_ports::{OutputLine, ROOM};
 use packet::{Kind, Malformed};
-use session_model::{Answer, Items, Refusal, Summary};
+use session_model::{Answer, Items, Refusal, Summary, Which};
 
 /// Puts a name and a number after what stands.
 pub fn put_named(line: &mut OutputLine, name: &[u8], number: u64)
@@ -121,6 +121,18 @@ pub fn drop_word(items: Items) -> &'static [u8]
     }
 }
 
+/// Puts what left a box after what stands.
+#[tactic(auto, unfolding(crate::specs::Answers::which_text))]
+fn put_which(line: &mut OutputLine, which: Which)
+    requires { length line.old + 25 ≤ ROOM }
+    ensures bytes { line.new ≡ line.old ++ which_text which }
+    ensures len { length line.new ≤ length line.old + 25 }
+{
+    match which {
+        Which::Oldest(items, n) => put_named(line, drop_word(items), u64::from(n)),
+    }
+}
+
 /// Puts an answer in words after what stands.
 #[tactic(auto, unfolding(crate::specs::Answers::answer_text))]
 pub fn put_answer(line: &mut OutputLine, answer: Answer)
@@ -137,7 +149,7 @@ pub fn put_answer(line: &mut OutputLine, answer: Answer)
             line.text(b"opened ");
             put_position(line, position);
         }
-        Answer::Dropped(items, n) => put_named(line, drop_word(items), u64::from(n)),
+        Answer::Dropped(which) => put_which(line, which),
         Answer::Inbox(n) => put_named(line, b"inbox ", u64::from(n)),
         Answer::Awaiting(n) => put_named(line, b"awaiting ", u64::from(n)),
         Answer::State(summary) => {

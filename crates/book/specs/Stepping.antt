@@ -8,7 +8,7 @@ use Rattle.dr_ports.specs.Seeds.{drawn}
 use Rattle.dr_ports.specs.States.{DrawsState}
 use Rattle.kem_laws.specs.Mechanism.{Mechanism}
 use Rattle.session_model.specs.declared.answer.Answer.TheVariants.{Dropped}
-use Rattle.session_model.specs.declared.answer.Items.{Items}
+use Rattle.session_model.specs.declared.answer.Which.{Which}
 use Rattle.client.specs.Outcomes.{Outcome, dropped_as, said_as, taken_as}
 use Rattle.client.specs.declared.refusals.DropRefusal.{DropRefusal}
 use Rattle.client.specs.declared.refusals.SayRefusal.{SayRefusal}
@@ -52,10 +52,10 @@ abbrev pub TakesAsStep : Mechanism → List ℕ → List ℕ → BookNow → Boo
 TakesAsStep k packet name old new result =
     IsStep k old new name (calls (acts (taking packet))) (replied_as taken_as result)
 
-abbrev pub DropsAsStep : Mechanism → Items → ℕ → List ℕ → BookNow → BookNow
+abbrev pub DropsAsStep : Mechanism → Which → List ℕ → BookNow → BookNow
     → Result Unit (BookRefusal DropRefusal) → Type 0
-DropsAsStep k items n name old new result =
-    IsStep k old new name (calls (acts (dropping items n))) (replied_as (dropped_as (Dropped items n)) result)
+DropsAsStep k which name old new result =
+    IsStep k old new name (calls (acts (dropping which))) (replied_as (dropped_as (Dropped which)) result)
 
 -- ---- of sessions that begin and end
 

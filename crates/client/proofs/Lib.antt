@@ -2,7 +2,6 @@ mod Ahead
 mod Areas
 mod Beginnings
 pub mod Drawing
-pub mod Dropped
 mod Exchanged
 pub mod Lawful
 pub mod Later

@@ -1,22 +1,21 @@
 -- What is drafted of what a client keeps, before it is accepted.
-use Rattle.std.specs.Prelude.{Err, List, None, Ok, Option, Result, Some, [], length, ℕ, ◌++◌, ◌<◌, ◌≤◌, ◌∷◌, ◌≡◌}
+use Rattle.std.specs.Prelude.{Err, List, None, Ok, Option, Result, Some, [], length, ℕ, ◌++◌, ◌<◌, ◌∷◌, ◌≡◌}
 use Rattle.boxes.specs.Entries.{entry_with}
-use Rattle.boxes.specs.declared.errors.Fewer.{Fewer as TooFew}
 use Rattle.dr_base.specs.declared.limits.TheConstants.{INBOX_LIMIT, OUTBOX_LIMIT}
-use Rattle.dr_model.specs.Machines.Acts.{dropped_client, standing_with}
+use Rattle.dr_model.specs.Machines.Acts.{dropped_client}
 use Rattle.dr_model.specs.Machines.Steps.{Step, step}
 use Rattle.kem_laws.specs.Mechanism.{Mechanism}
 use Rattle.ratchet.specs.Seen.{Received, Said, received_of, said_of}
 use Rattle.session_model.specs.Clients.{Client, accept_receive, take_on}
+use Rattle.session_model.specs.Leaving.{drop_check}
 use Rattle.session_model.specs.Drafts.{IsReceiveDraft, IsSendDraft}
 use Rattle.session_model.specs.Saying.{SendDraft}
 use Rattle.session_model.specs.States.{State}
 use Rattle.session_model.specs.Taking.{ReceiveDraft}
 use Rattle.session_model.specs.declared.answer.Answer.{Answer}
 use Rattle.session_model.specs.declared.answer.Answer.TheVariants.{Dropped, Opened, Said as AnswersSaid}
-use Rattle.session_model.specs.declared.answer.Items.{Items}
 use Rattle.session_model.specs.declared.answer.Refusal.{Refusal}
-use Rattle.session_model.specs.declared.answer.Refusal.TheVariants.{Fewer}
+use Rattle.session_model.specs.declared.answer.Which.{Which}
 use Rattle.session_record.specs.Changes.{FitsInbox, FitsOutbox, changed}
 use Rattle.session_record.specs.Lawful.{IsLawfulClient}
 use Rattle.session_record.specs.Record.{client_of, record_text}
@@ -69,14 +68,9 @@ DraftsFor k kept packet drafted =
 
 -- ---- items that are dropped
 
--- so many stand
-abbrev pub HasToDrop : Client → Items → ℕ → Type 0
-HasToDrop kept items n = n ≤ standing_with kept items
-
--- the step, or why it is refused
-abbrev pub dropped_by : Client → Items → ℕ → Result Unit TooFew → Result (Step Client) Refusal
-dropped_by kept items n (Ok u) = Ok (step (Dropped items n) (dropped_client kept items n))
-dropped_by kept items n (Err few) = Err (Fewer few.held)
+-- they stand
+abbrev pub HasToDrop : Client → Which → Type 0
+HasToDrop kept which = drop_check which kept.inbox kept.outbox ≡ Ok tt
 
 -- ---- a draft
 
@@ -84,19 +78,19 @@ dropped_by kept items n (Err few) = Err (Fewer few.held)
 abbrev pub drafted_answer : {K Work : Type 0} → Draft K Work → Answer
 drafted_answer (ToSay draft) = AnswersSaid draft.post.position
 drafted_answer (ToTake draft) = Opened draft.position
-drafted_answer (ToDrop items n) = Dropped items n
+drafted_answer (ToDrop which) = Dropped which
 
 -- what is kept once it is accepted
 abbrev pub drafted_client : {K Work : Type 0} → Client → Draft K Work → Client
 drafted_client kept (ToSay draft) = said_client kept draft
 drafted_client kept (ToTake draft) = received_client kept draft
-drafted_client kept (ToDrop items n) = dropped_client kept items n
+drafted_client kept (ToDrop which) = dropped_client kept which
 
 -- a draft of what is kept
 abbrev pub IsDraftOf : {K Work : Type 0} → Mechanism → Client → Draft K Work → Type 0
 IsDraftOf k kept (ToSay draft) = IsSaidOf k kept draft
 IsDraftOf k kept (ToTake draft) = IsReceivedOf k kept draft
-IsDraftOf k kept (ToDrop items n) = HasToDrop kept items n
+IsDraftOf k kept (ToDrop which) = HasToDrop kept which
 
 -- the step that it makes
 abbrev pub drafted_step : {K Work : Type 0} → Client → Draft K Work → Step Client

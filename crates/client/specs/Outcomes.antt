@@ -10,14 +10,14 @@ use Rattle.session_model.specs.Clients.{Client}
 use Rattle.session_model.specs.declared.answer.Answer.{Answer}
 use Rattle.session_model.specs.declared.answer.Answer.TheVariants.{Opened, Said}
 use Rattle.session_model.specs.declared.answer.Refusal.{Refusal}
-use Rattle.session_model.specs.declared.answer.Refusal.TheVariants.{Fewer, NoPair}
+use Rattle.session_model.specs.declared.answer.Refusal.TheVariants.{NoPair}
 use Rattle.session_record.specs.Record.{record_text}
 use Rattle.slot_store.specs.Stops.{call_after, calls_of}
 use Rattle.client.specs.Cells.{Cell, IsOldOrNewInCell, IsStoppedInCell, ReadsOutsideCell, client_cell}
 use Rattle.client.specs.Clients.{ClientNow}
 use Rattle.client.specs.Keepings.{Keeping, cell_of, client_keeping}
 use Rattle.client.specs.declared.refusals.DropRefusal.{DropRefusal}
-use Rattle.client.specs.declared.refusals.DropRefusal.TheVariants.{Closed as DropClosed, Fewer as DropFewer, StoreFault as DropFault}
+use Rattle.client.specs.declared.refusals.DropRefusal.TheVariants.{Closed as DropClosed, Refused as DropRefused, StoreFault as DropFault}
 use Rattle.client.specs.declared.refusals.SayRefusal.{SayRefusal}
 use Rattle.client.specs.declared.refusals.SayRefusal.TheVariants.{Closed as SayClosed, DrawFault, NoPair as SayNoPair, Refused as SayRefused, StoreFault as SayFault}
 use Rattle.client.specs.declared.refusals.TakeRefusal.{TakeRefusal}
@@ -51,7 +51,7 @@ taken_as (Err (TakeFault call)) = faulted call
 abbrev pub dropped_as : Answer → Result Unit DropRefusal → Outcome
 dropped_as answer (Ok done) = acknowledged answer
 dropped_as answer (Err (DropClosed call)) = is_closed call
-dropped_as answer (Err (DropFewer held)) = refused (Fewer held)
+dropped_as answer (Err (DropRefused refusal)) = refused refusal
 dropped_as answer (Err (DropFault call)) = faulted call
 
 -- of a step that has an effect, on an open client

@@ -1,4 +1,4 @@
-//! The oldest items of a box are dropped.
+//! Items leave a box.
 
 ghost use Rattle.std.specs.Prelude.{◌≡◌, Ok, OnOk, true};
 ghost use Rattle.dr_base.specs.declared.position.Side.{Side};
@@ -7,9 +7,10 @@ ghost use Rattle.dr_model.specs.Machines.Steps.{has_effect};
 ghost use Rattle.dr_model.specs.Machines.Worlds.{World};
 ghost use Rattle.session_model.specs.declared.answer.Answer.TheVariants.{Dropped};
 ghost use Rattle.session_model.specs.declared.answer.Items.TheVariants.{Packets, Texts};
+ghost use Rattle.session_model.specs.declared.answer.Which.TheVariants.{Oldest};
 ghost use Rattle.client.specs.Acting.{IsKeeperAct};
 ghost use Rattle.client.specs.Clients.{IsOpenOn, MayActOn};
-ghost use Rattle.client.specs.Drafting.{HasToDrop, dropped_by};
+ghost use Rattle.client.specs.Drafting.{HasToDrop};
 ghost use Rattle.client.specs.InWorlds.{ActsIn, IsIn, IsKeeperIn, KeeperActsIn};
 ghost use Rattle.client.specs.Keepings.{IsKeeperOpen, MayKeeperAct};
 ghost use Rattle.client.specs.Outcomes.{Acts, KeeperActs, StaysPassing, dropped_as, kept_as};
@@ -21,7 +22,7 @@ use crate::laws::grounds;
 use crate::refusals::DropRefusal;
 use dr_disk::{Call, Disk};
 use kem_laws::Kem;
-use session_model::Items;
+use session_model::{Items, Which};
 
 impl<K: Kem> Client<K> {
     /// Drops the `n` oldest texts of the inbox. `Closed` exactly where a call on the disk failed
@@ -31,109 +32,103 @@ impl<K: Kem> Client<K> {
     pub fn done<D: Disk>(&mut self, disk: &mut D, n: u32) -> Result<(), DropRefusal>
         requires { MayActOn self.old (D.state disk.old) }
         // Exactly what the side makes of it, but for a failing call on the disk.
-        ensures exact { Acts D.state (act_on K.mechanism self.old.kept (dropping Texts n))
-            self.old self.new disk.old disk.new (dropped_as (Dropped Texts n) result) }
+        ensures exact { let which = Oldest Texts n in
+            Acts D.state (act_on K.mechanism self.old.kept (dropping which))
+            self.old self.new disk.old disk.new (dropped_as (Dropped which) result) }
         ensures ready { OnOk result (IsOpenOn self.new (D.state disk.new)) }
         // In each world that the client stands for, at every moment.
         ensures in_worlds { (w : World) (side : Side) → IsIn K.mechanism w side self.old
-            → ActsIn K.mechanism w side (dropping Texts n) self.old self.new (D.state disk.old)
-            (D.state disk.new)
-            (dropped_as (Dropped Texts n) result) }
+            → let which = Oldest Texts n in
+            ActsIn K.mechanism w side (dropping which) self.old self.new (D.state disk.old)
+            (D.state disk.new) (dropped_as (Dropped which) result) }
         ensures fate { StaysPassing (D.state disk.old) (D.state disk.new)
-            (dropped_as (Dropped Texts n) result) }
+            (dropped_as (Dropped (Oldest Texts n)) result) }
     {
-        self.drop_items(disk, Items::Texts, n)
+        self.drop_items(disk, Which::Oldest(Items::Texts, n))
     }
 
     /// Drops the `n` oldest packets of the outbox, which were sent. Refuses as `done` does.
     pub fn sent<D: Disk>(&mut self, disk: &mut D, n: u32) -> Result<(), DropRefusal>
         requires { MayActOn self.old (D.state disk.old) }
         // Exactly what the side makes of it, but for a failing call on the disk.
-        ensures exact { Acts D.state (act_on K.mechanism self.old.kept (dropping Packets n))
-            self.old self.new disk.old disk.new (dropped_as (Dropped Packets n) result) }
+        ensures exact { let which = Oldest Packets n in
+            Acts D.state (act_on K.mechanism self.old.kept (dropping which))
+            self.old self.new disk.old disk.new (dropped_as (Dropped which) result) }
         ensures ready { OnOk result (IsOpenOn self.new (D.state disk.new)) }
         // In each world that the client stands for, at every moment.
         ensures in_worlds { (w : World) (side : Side) → IsIn K.mechanism w side self.old
-            → ActsIn K.mechanism w side (dropping Packets n) self.old self.new (D.state disk.old)
-            (D.state disk.new)
-            (dropped_as (Dropped Packets n) result) }
+            → let which = Oldest Packets n in
+            ActsIn K.mechanism w side (dropping which) self.old self.new (D.state disk.old)
+            (D.state disk.new) (dropped_as (Dropped which) result) }
         ensures fate { StaysPassing (D.state disk.old) (D.state disk.new)
-            (dropped_as (Dropped Packets n) result) }
+            (dropped_as (Dropped (Oldest Packets n)) result) }
     {
-        self.drop_items(disk, Items::Packets, n)
+        self.drop_items(disk, Which::Oldest(Items::Packets, n))
     }
 
-    /// Drops the `n` oldest items of a box, as `done` and `sent` do.
-    pub fn drop_items<D: Disk>(
-        &mut self,
-        disk: &mut D,
-        items: Items,
-        n: u32,
-    ) -> Result<(), DropRefusal>
+    /// Drops items of a box, as `done` and `sent` do.
+    pub fn drop_items<D: Disk>(&mut self, disk: &mut D, which: Which) -> Result<(), DropRefusal>
         requires { MayActOn self.old (D.state disk.old) }
-        ensures exact { Acts D.state (act_on K.mechanism self.old.kept (dropping items n))
-            self.old self.new disk.old disk.new (dropped_as (Dropped items n) result) }
+        ensures exact { Acts D.state (act_on K.mechanism self.old.kept (dropping which))
+            self.old self.new disk.old disk.new (dropped_as (Dropped which) result) }
         ensures ready { OnOk result (IsOpenOn self.new (D.state disk.new)) }
         ensures in_worlds { (w : World) (side : Side) → IsIn K.mechanism w side self.old
-            → ActsIn K.mechanism w side (dropping items n) self.old self.new (D.state disk.old)
-            (D.state disk.new)
-            (dropped_as (Dropped items n) result) }
+            → ActsIn K.mechanism w side (dropping which) self.old self.new (D.state disk.old)
+            (D.state disk.new) (dropped_as (Dropped which) result) }
         ensures fate { StaysPassing (D.state disk.old) (D.state disk.new)
-            (dropped_as (Dropped items n) result) }
+            (dropped_as (Dropped which) result) }
     {
-        drop_items::<K, Client<K>, D>(self, disk, items, n)
+        drop_items::<K, Client<K>, D>(self, disk, which)
     }
 }
 
-/// Drops the `n` oldest items of a box, as `done` and `sent` do.
+/// Drops items of a box, as `done` and `sent` do.
 pub fn drop_items<K: Kem, Q: Keeper<K>, D: Disk>(
     keeper: &mut Q,
     disk: &mut D,
-    items: Items,
-    n: u32,
+    which: Which,
 ) -> Result<(), DropRefusal>
     requires { MayKeeperAct Q.keeping keeper.old (D.state disk.old) }
     // Exactly what the side makes of it, but for a failing call on the disk.
     ensures exact { KeeperActs Q.keeping D.state
-        (act_on K.mechanism (Q.keeping.kept keeper.old) (dropping items n))
-        keeper.old keeper.new disk.old disk.new (dropped_as (Dropped items n) result) }
+        (act_on K.mechanism (Q.keeping.kept keeper.old) (dropping which))
+        keeper.old keeper.new disk.old disk.new (dropped_as (Dropped which) result) }
     ensures ready { OnOk result (IsKeeperOpen Q.keeping keeper.new (D.state disk.new)) }
     // In each world that the keeper stands for, at every moment.
     ensures in_worlds { (w : World) (side : Side)
         → IsKeeperIn Q.keeping K.mechanism w side keeper.old
-        → KeeperActsIn Q.keeping K.mechanism w side (dropping items n) keeper.old keeper.new
-        (D.state disk.old) (D.state disk.new) (dropped_as (Dropped items n) result) }
+        → KeeperActsIn Q.keeping K.mechanism w side (dropping which) keeper.old keeper.new
+        (D.state disk.old) (D.state disk.new) (dropped_as (Dropped which) result) }
     ensures fate { StaysPassing (D.state disk.old) (D.state disk.new)
-        (dropped_as (Dropped items n) result) }
+        (dropped_as (Dropped which) result) }
 {
     grounds::<K>();
     Q::holds::<D>();
-    drop_exact::<K, Q, D>(keeper, disk, items, n)
+    drop_exact::<K, Q, D>(keeper, disk, which)
 }
 
-/// Drops the `n` oldest items of a box.
+/// Drops items of a box.
 pub(crate) fn drop_exact<K: Kem, Q: Keeper<K>, D: Disk>(
     keeper: &mut Q,
     disk: &mut D,
-    items: Items,
-    n: u32,
+    which: Which,
 ) -> Result<(), DropRefusal>
     requires { MayKeeperAct Q.keeping keeper.old (D.state disk.old) }
     ensures { IsKeeperAct Q.keeping D.state
-        (act_on K.mechanism (Q.keeping.kept keeper.old) (dropping items n))
-        keeper.old keeper.new disk.old disk.new (dropped_as (Dropped items n) result) }
+        (act_on K.mechanism (Q.keeping.kept keeper.old) (dropping which))
+        keeper.old keeper.new disk.old disk.new (dropped_as (Dropped which) result) }
 {
     if let Some(call) = keeper.closed() {
         return Err(DropRefusal::Closed { call });
     }
     keeper.is_there(disk);
-    match keeper.core().drop_check(items, n) {
-        Err(fewer) => Err(DropRefusal::Fewer { held: fewer.held }),
+    match keeper.core().drop_check(which) {
+        Err(refusal) => Err(DropRefusal::Refused(refusal)),
         Ok(()) => {
-            if n == 0 {
+            if !which.drops_any() {
                 return Ok(());
             }
-            match keep_dropped::<K, Q, D>(keeper, disk, items, n) {
+            match keep_dropped::<K, Q, D>(keeper, disk, which) {
                 Err(call) => Err(DropRefusal::StoreFault { call }),
                 Ok(()) => Ok(()),
             }
@@ -147,14 +142,14 @@ pub(crate) fn drop_exact<K: Kem, Q: Keeper<K>, D: Disk>(
 fn keep_dropped<K: Kem, Q: Keeper<K>, D: Disk>(
     keeper: &mut Q,
     disk: &mut D,
-    items: Items,
-    n: u32,
+    which: Which,
 ) -> Result<(), Call>
-    requires fits { HasToDrop (Q.keeping.kept keeper.old) items n }
-    requires effect { has_effect (Dropped items n) ≡ true }
+    requires fits { HasToDrop (Q.keeping.kept keeper.old) which }
+    requires effect { has_effect (Dropped which) ≡ true }
     requires open { IsKeeperOpen Q.keeping keeper.old (D.state disk.old) }
-    ensures { IsKeeperAct Q.keeping D.state (dropped_by (Q.keeping.kept keeper.old) items n (Ok tt))
-        keeper.old keeper.new disk.old disk.new (kept_as (Dropped items n) result) }
+    ensures { IsKeeperAct Q.keeping D.state
+        (act_on K.mechanism (Q.keeping.kept keeper.old) (dropping which))
+        keeper.old keeper.new disk.old disk.new (kept_as (Dropped which) result) }
 {
-    keep::<K, Q, D>(keeper, disk, Draft::Dropped(items, n))
+    keep::<K, Q, D>(keeper, disk, Draft::Dropped(which))
 }

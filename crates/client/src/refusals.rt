@@ -54,9 +54,9 @@ pub enum DropRefusal {
     /// A call on the disk failed before, of this kind: the client has to be opened again.
     #[error("the client is closed, since a call on the disk failed before: {call:?}")]
     Closed { call: Call },
-    /// Only this many stand.
-    #[error("only {held} stand")]
-    Fewer { held: u32 },
+    /// What was to leave doesn't stand.
+    #[error("nothing is dropped: {}", InWords(*.0))]
+    Refused(Refusal),
     /// A call on the disk failed, of this kind: the client is closed.
     #[error("a call on the disk failed: {call:?}")]
     StoreFault { call: Call },

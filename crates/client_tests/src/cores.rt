@@ -8,7 +8,7 @@ use client::{Core, Draft};
 use dr_base::{Position, Side};
 use kem_laws::OpenKem;
 use ratchet::{OpeningRoom, PacketRoom};
-use session_model::Items;
+use session_model::{Items, Which};
 use session_record::{RECORD_LIMIT, decode};
 use std::alloc::Global;
 
@@ -90,16 +90,15 @@ fn reads_back(alloc: Global, core: &Core<OpenKem>) -> bool {
 
 /// Drops one item of a box, which has no other. The draft's record is that of the core afterwards.
 fn drop_in(core: &mut Core<OpenKem>, items: Items, early: &mut [u8], late: &mut [u8]) -> bool {
+    let which = Which::Oldest(items, 1);
     let short = early.len() < RECORD_LIMIT || late.len() < RECORD_LIMIT;
-    if short || core.drop_check(items, 1).is_err() {
+    if short || core.drop_check(which).is_err() {
         return false;
     }
-    let draft = Draft::Dropped(items, 1);
+    let draft = Draft::Dropped(which);
     let len = core.encode(&draft, early);
     core.accept(draft);
-    core.drop_check(items, 1).is_err()
-        && core.encode_now(late) == len
-        && &early[..len] == &late[..len]
+    core.drop_check(which).is_err() && core.encode_now(late) == len && &early[..len] == &late[..len]
 }
 
 /// The same with room for both records.

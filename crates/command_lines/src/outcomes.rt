@@ -42,7 +42,7 @@ pub fn dropped(answer: Answer, acted: Result<(), DropRefusal>) -> Result<Answer,
     match acted {
         Ok(()) => Ok(answer),
         Err(DropRefusal::Closed { .. }) => Err(Ending::DiskFault),
-        Err(DropRefusal::Fewer { held }) => Err(Ending::Refused(Refusal::Fewer(held))),
+        Err(DropRefusal::Refused(refusal)) => Err(Ending::Refused(refusal)),
         Err(DropRefusal::StoreFault { .. }) => Err(Ending::DiskFault),
     }
 }

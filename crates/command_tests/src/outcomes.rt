@@ -8,7 +8,7 @@ use dr_disk::{Disk, MemoryDisk};
 use dr_ports::{MemoryDraws, MemorySink, MemorySource};
 use kem_laws::OpenKem;
 use session_commands::{begin, check, drop_items, say, show, take};
-use session_model::Items;
+use session_model::{Items, Which};
 use std::alloc::{AllocError, Global};
 use std::test::Fail;
 
@@ -60,8 +60,12 @@ fn status_of(
         }
         Command::Take(_) => take::<OpenKem, _, _, _>(alloc, disk, &mut source, out),
         Command::Say(text) => say::<OpenKem, _, _, _>(alloc, text, disk, out, &mut draws),
-        Command::Done(n) => drop_items::<OpenKem, _, _>(alloc, Items::Texts, n, disk, out),
-        Command::Sent(n) => drop_items::<OpenKem, _, _>(alloc, Items::Packets, n, disk, out),
+        Command::Done(n) => {
+            drop_items::<OpenKem, _, _>(alloc, Which::Oldest(Items::Texts, n), disk, out)
+        }
+        Command::Sent(n) => {
+            drop_items::<OpenKem, _, _>(alloc, Which::Oldest(Items::Packets, n), disk, out)
+        }
         Command::Inbox => show::<OpenKem, _, _>(alloc, Listing::Inbox, disk, out),
         Command::Outbox => show::<OpenKem, _, _>(alloc, Listing::Outbox, disk, out),
         Command::Awaiting => show::<OpenKem, _, _>(alloc, Listing::Awaiting, disk, out),

@@ -107,7 +107,7 @@ module _ (k : Mechanism) (s : WorldBeside) (lawful : IsLawfulWorld k s.ends) whe
   left_arrives : (side : Side) (left : Option Act) → IsTaking left → Arrives side (act_done_in k w side left)
   left_arrives side None take = absurd take
   left_arrives side (Some (saying text draw)) take = absurd take
-  left_arrives side (Some (dropping items n)) take = absurd take
+  left_arrives side (Some (dropping which)) take = absurd take
   left_arrives side (Some (taking packet)) take =
       drawn_arrives side (act_in k w side (taking packet)).next w.draws (take_arrives side (of_bytes packet))
 

@@ -1,24 +1,24 @@
 -- What the network gets of a step of one side.
 use Rattle.std.proofs.Common.{Bool, Err, List, None, Ok, Option, Result, Some, [], ap, append-nil, arith, false, if◌then◌else◌, length, refl, suc, sym, true, zero, ℕ, ◌++◌, ◌+◌, ◌-◌, ◌∙◌, ◌∷◌, ◌≡◌, ◌<◌, ◌≤◌}
-use Rattle.std.specs.Prelude.{drop, nat_le, nat_lt, slice_get, ⊤}
+use Rattle.std.specs.Prelude.{drop, nat_lt, slice_get, ⊤}
 use Rattle.std.proofs.lemmas.Bool.Decides.{nat_tests}
-use Rattle.std.proofs.lemmas.List.{drop_all, length-append, length-drop, length-map}
+use Rattle.std.proofs.lemmas.List.{drop_all, length-append, length-map}
 use Rattle.boxes.specs.Posts.{Post}
 use Rattle.dr_base.specs.declared.position.Side.{Side}
 use Rattle.dr_base.specs.declared.position.Side.TheVariants.{First, Second}
 use Rattle.dr_disk.specs.declared.call.Mode.{Mode}
-use Rattle.dr_model.specs.Machines.Acts.{Act, act_on, dropped_client, dropping, said_by, saying, saying_by, standing_with, taken_by, taking}
+use Rattle.dr_model.specs.Machines.Acts.{Act, act_on, dropped_client, dropping, said_by, saying, saying_by, taken_by, taking}
 use Rattle.dr_model.specs.Machines.Draws.{given_or}
 use Rattle.dr_model.specs.Machines.Sides.{Sides, client_of, settled_on, with_client}
-use Rattle.dr_model.specs.Machines.Steps.{Step, has_effect, settled, step}
+use Rattle.dr_model.specs.Machines.Steps.{Step, has_effect, leaving, settled, step}
 use Rattle.kem_laws.specs.Mechanism.{Mechanism}
 use Rattle.session_model.specs.Clients.{Client, accept_send, say_check, take_on}
 use Rattle.session_model.specs.Saying.{SendDraft, draft_send}
-use Rattle.session_model.specs.declared.answer.Answer.TheVariants.{Dropped, Refused, Stopped}
-use Rattle.session_model.specs.declared.answer.Items.{Items}
-use Rattle.session_model.specs.declared.answer.Items.TheVariants.{Packets, Texts}
+use Rattle.session_model.specs.Leaving.{drop_check}
+use Rattle.session_model.specs.declared.answer.Answer.TheVariants.{Refused, Stopped}
 use Rattle.session_model.specs.declared.answer.Refusal.{Refusal}
-use Rattle.session_model.specs.declared.answer.Refusal.TheVariants.{Fewer}
+use Rattle.session_model.specs.declared.answer.Which.{Which}
+use Rattle.session_model.proofs.Leaving.{fewer_packets}
 use Rattle.client.proofs.Syncs.Parties.{keeps_outbox}
 use Rattle.duet.specs.Gathering.{gathered, gathering, newest_from}
 use Rattle.parties.specs.Stops.{cut_by, cut_of, stopped_client}
@@ -95,16 +95,11 @@ taken_few k c bytes =
       length-map c.outbox (λ (i : Post). i.packet),
     )
 
--- where the oldest items of a box leave it
-dropped_few : (c : Client) (items : Items) (n : ℕ) → length (dropped_client c items n).outbox ≤ length c.outbox
-dropped_few c Texts n = omega arith
-dropped_few c Packets n = omega (arith, length-drop n c.outbox)
-
-leaving_few : (c : Client) (items : Items) (n : ℕ) (enough : Bool) (refusal : Refusal)
-    → length (settled c (if enough then Ok (step (Dropped items n) (dropped_client c items n)) else Err refusal)).next.outbox
-    ≤ length c.outbox
-leaving_few c items n true refusal = dropped_few c items n
-leaving_few c items n false refusal = omega arith
+-- where items leave a box
+leaving_few : (c : Client) (which : Which) (check : Result Unit Refusal)
+    → length (settled c (leaving which check (dropped_client c which))).next.outbox ≤ length c.outbox
+leaving_few c which (Ok stand) = fewer_packets which c.outbox
+leaving_few c which (Err refusal) = omega arith
 
 -- an act that says no text
 abbrev pub SaysNone : Act → Type 0
@@ -115,8 +110,7 @@ pub quiet_few : (k : Mechanism) (c : Client) (act : Act) → SaysNone act
     → length (settled c (act_on k c act)).next.outbox ≤ length c.outbox
 quiet_few k c (saying text draw) none = absurd none
 quiet_few k c (taking bytes) none = taken_few k c bytes
-quiet_few k c (dropping items n) none =
-    let standing = standing_with c items in leaving_few c items n (nat_le n standing) (Fewer standing)
+quiet_few k c (dropping which) none = leaving_few c which (drop_check which c.inbox c.outbox)
 
 pub said_few : (c : Client) (d : Option SendDraft) → length (settled c (said_by (accept_send c d))).next.outbox ≤ length c.outbox + 1
 said_few c None = omega arith

@@ -9,7 +9,7 @@ use Rattle.dr_base.specs.declared.position.Side.{Side}
 use Rattle.dr_base.specs.declared.position.Side.TheVariants.{First, Second}
 use Rattle.dr_model.specs.Conversations.Conversation.{Conversation}
 use Rattle.dr_model.specs.Conversations.Posts.{posts}
-use Rattle.dr_model.specs.Machines.Acts.{Act, act_on, needs_seed, said_by, saying, saying_by, taking}
+use Rattle.dr_model.specs.Machines.Acts.{Act, act_on, dropping, needs_seed, said_by, saying, saying_by, taking}
 use Rattle.dr_model.specs.Machines.WorldActs.{act_in, event_of, with_draw, world_for}
 use Rattle.dr_model.specs.Machines.Draws.{after_draw, given_or, next_seed}
 use Rattle.dr_model.specs.Machines.Sides.{Sides, client_of, said_on, saying_on, settled_on, step_on, with_client}
@@ -18,7 +18,7 @@ use Rattle.dr_model.specs.Machines.Worlds.{World}
 use Rattle.dr_model.specs.Machines.WorldSides.{kept_in, sides_of}
 use Rattle.dr_model.specs.Theorems.Acting.{IsFairAct}
 use Rattle.dr_model.specs.Theorems.LawfulWorlds.{IsLawfulWorld}
-use Rattle.dr_model.proofs.Acting.ActsFollowing.{act_follows, act_leaves, fair_event, lawful_act, lawful_for}
+use Rattle.dr_model.proofs.Acting.ActsFollowing.{act_follows, act_leaves, drop_called, fair_event, lawful_act, lawful_for}
 use Rattle.dr_model.proofs.Acting.Posting.{act_grows, act_posts}
 use Rattle.dr_model.proofs.Saying.SayingChecks.{same_check}
 use Rattle.dr_model.proofs.Worlds.Following.{step_follows}
@@ -100,7 +100,10 @@ settled_key s side (Err refusal) = refl
 
 act_key : (k : Mechanism) (s : Sides) (side : Side) (act : Act) → (step_on k s (event_of side act)).next.key ≡ s.key
 act_key k s side (saying text draw) = saying_key k s side text (say_check (client_of s side) (length text))
-act_key k s side act = settled_key s side (act_on k (client_of s side) act)
+act_key k s side (taking bytes) = settled_key s side (act_on k (client_of s side) (taking bytes))
+act_key k s side (dropping which) =
+    ap (λ (made : Step Sides). made.next.key) (drop_called k s side which)
+    ∙ settled_key s side (act_on k (client_of s side) (dropping which))
 
 -- the draw that was made for an act leaves the conversation
 draw_over : (w : World) (draw : Option (List ℕ)) → w.conversation ≡ (with_draw w draw).conversation

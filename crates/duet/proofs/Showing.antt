@@ -1,18 +1,18 @@
 -- What an event shows, and what it adds to the network and to the draws.
 use Rattle.std.proofs.Common.{◌≡◌, ℕ, ◌+◌, ◌≤◌, Bool, true, false, List, [], ◌∷◌, ◌++◌, length, Option, Some, None, Result, Ok, Err, if◌then◌else◌, refl, sym, ◌∙◌, ap, ap₂, append-nil, arith, length-append}
-use Rattle.std.specs.Prelude.{IfOk, drop, nat_le, nat_lt, ◌-◌}
+use Rattle.std.specs.Prelude.{IfOk, drop, nat_lt, ◌-◌}
 use Rattle.std.proofs.lemmas.List.{length-drop}
 use Rattle.dr_base.specs.declared.position.Side.{Side}
 use Rattle.dr_base.specs.declared.position.Side.TheVariants.{First, Second}
 use Rattle.boxes.specs.Posts.{Post}
-use Rattle.session_model.specs.declared.answer.Answer.TheVariants.{Dropped, Stopped}
-use Rattle.session_model.specs.declared.answer.Items.{Items}
+use Rattle.session_model.specs.Leaving.{drop_check}
+use Rattle.session_model.specs.declared.answer.Answer.TheVariants.{Stopped}
 use Rattle.session_model.specs.declared.answer.Refusal.{Refusal}
-use Rattle.session_model.specs.declared.answer.Refusal.TheVariants.{Fewer}
+use Rattle.session_model.specs.declared.answer.Which.{Which}
 use Rattle.session_model.specs.Clients.{Client, SaidText, TakenPacket, say_check, say_on, take_on}
 use Rattle.dr_model.specs.Machines.Sides.{Sides, act_of, acted_on, called_on, client_of, said_on, saying_on, settled_on, step_on, with_client}
-use Rattle.dr_model.specs.Machines.Steps.{Shown, Step, has_effect, step, texts}
-use Rattle.dr_model.specs.Machines.Acts.{Act, act_on, dropped_client, dropping, said_by, saying, saying_by, standing_with, taken_by, taking}
+use Rattle.dr_model.specs.Machines.Steps.{Shown, Step, has_effect, leaving, step, texts}
+use Rattle.dr_model.specs.Machines.Acts.{Act, act_on, dropped_client, dropping, said_by, saying, saying_by, taken_by, taking}
 use Rattle.dr_model.specs.Machines.Draws.{Draws, after_draw, given_or, next_seed}
 use Rattle.dr_model.specs.Machines.Events.{Event, SideCall, cuts, does, says, seeds, shows_awaiting, shows_inbox, shows_state}
 use Rattle.kem_laws.specs.Mechanism.{Mechanism}
@@ -70,17 +70,15 @@ taken_none : (r : Result TakenPacket Refusal) → IfOk (taken_by r) (λ made. ma
 taken_none (Ok taken) = refl
 taken_none (Err refusal) = tt
 
-leaving_none : (items : Items) (n : ℕ) (next : Client) (enough : Bool) (refusal : Refusal)
-    → IfOk (if enough then Ok (step (Dropped items n) next) else Err refusal) (λ made. made.shown ≡ texts [])
-leaving_none items n next true refusal = refl
-leaving_none items n next false refusal = tt
+leaving_none : (which : Which) (check : Result Unit Refusal) (next : Client)
+    → IfOk (leaving which check next) (λ made. made.shown ≡ texts [])
+leaving_none which (Ok stand) next = refl
+leaving_none which (Err refusal) next = tt
 
 act_none : (k : Mechanism) (c : Client) (act : Act) → IfOk (act_on k c act) (λ made. made.shown ≡ texts [])
 act_none k c (saying text draw) = saying_none k c text draw (say_check c (length text))
 act_none k c (taking bytes) = taken_none (take_on k c bytes)
-act_none k c (dropping items n) =
-    let standing = standing_with c items in
-    leaving_none items n (dropped_client c items n) (nat_le n standing) (Fewer standing)
+act_none k c (dropping which) = leaving_none which (drop_check which c.inbox c.outbox) (dropped_client c which)
 
 settled_quiet : (s : Sides) (side : Side) (r : Result (Step Client) Refusal) → IfOk r (λ made. made.shown ≡ texts [])
     → IsQuiet s (settled_on s side r)

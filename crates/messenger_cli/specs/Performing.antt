@@ -13,8 +13,9 @@ use Rattle.command_words.specs.declared.command.Ask.TheVariants.{Begin, Check, D
 use Rattle.command_lines.specs.Listings.{lines_of}
 use Rattle.command_lines.specs.declared.listing.Listing.{Listing}
 use Rattle.command_lines.specs.declared.listing.Listing.TheVariants.{Awaiting, Inbox, Outbox, State}
-use Rattle.session_model.specs.declared.answer.Items.{Items}
 use Rattle.session_model.specs.declared.answer.Items.TheVariants.{Packets, Texts}
+use Rattle.session_model.specs.declared.answer.Which.{Which}
+use Rattle.session_model.specs.declared.answer.Which.TheVariants.{Oldest}
 use Rattle.session_commands.specs.Asking.{asked_drop, asked_say}
 use Rattle.session_commands.specs.Beginning.{RunsBegin}
 use Rattle.session_commands.specs.Checking.{RunsCheck}
@@ -99,9 +100,9 @@ pub record ServesAlone {P : PortTypes} (seen : Seen P) (port count : ℕ) (boxes
   pub draws : new.draws ≡ old.draws
 
 -- items leave a box
-abbrev pub Drops : {P : PortTypes} → Items → ℕ → Seen P → PortsNow P → PortsNow P → ℕ → Type 0
-Drops items n seen old new code =
-    WritesAlone (RunsAct seen.disk sntrup761_kem (asked_drop (dropping items n))
+abbrev pub Drops : {P : PortTypes} → Which → Seen P → PortsNow P → PortsNow P → ℕ → Type 0
+Drops which seen old new code =
+    WritesAlone (RunsAct seen.disk sntrup761_kem (asked_drop (dropping which))
     old.disk new.disk) seen old new code
 
 -- a list is shown
@@ -122,8 +123,8 @@ Performs Say values seen old new code =
 Performs Take values seen old new code =
     ReadsAndWrites (RunsTake seen.disk sntrup761_kem
     (seen.source old.source) (seen.source new.source) old.disk new.disk) seen old new code
-Performs (Done n) values seen old new code = Drops Texts n seen old new code
-Performs (Sent n) values seen old new code = Drops Packets n seen old new code
+Performs (Done n) values seen old new code = Drops (Oldest Texts n) seen old new code
+Performs (Sent n) values seen old new code = Drops (Oldest Packets n) seen old new code
 Performs ShowsInbox values seen old new code = Shows Inbox seen old new code
 Performs ShowsOutbox values seen old new code = Shows Outbox seen old new code
 Performs ShowsAwaiting values seen old new code = Shows Awaiting seen old new code

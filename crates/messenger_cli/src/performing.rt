@@ -15,7 +15,7 @@ use dr_ports::{Door, Draws, Link, Sink, Source};
 use endings::Status;
 use relay_command::relay;
 use session_commands::{begin, check, drop_items, say, show, sync, take};
-use session_model::Items;
+use session_model::{Items, Which};
 use sntrup761::Sntrup761;
 use std::alloc::Global;
 
@@ -54,8 +54,12 @@ pub(crate) fn perform<D: Disk, R: Disk, S: Source, O: Sink, L: Link, A: Door, W:
         ),
         Ask::Take => take::<Sntrup761, D, S, O>(alloc, disk, source, sink),
         Ask::Inbox => show::<Sntrup761, D, O>(alloc, Listing::Inbox, disk, sink),
-        Ask::Done(n) => drop_items::<Sntrup761, D, O>(alloc, Items::Texts, n, disk, sink),
-        Ask::Sent(n) => drop_items::<Sntrup761, D, O>(alloc, Items::Packets, n, disk, sink),
+        Ask::Done(n) => {
+            drop_items::<Sntrup761, D, O>(alloc, Which::Oldest(Items::Texts, n), disk, sink)
+        }
+        Ask::Sent(n) => {
+            drop_items::<Sntrup761, D, O>(alloc, Which::Oldest(Items::Packets, n), disk, sink)
+        }
         Ask::Outbox => show::<Sntrup761, D, O>(alloc, Listing::Outbox, disk, sink),
         Ask::Awaiting => show::<Sntrup761, D, O>(alloc, Listing::Awaiting, disk, sink),
         Ask::State => show::<Sntrup761, D, O>(alloc, Listing::State, disk, sink),

@@ -41,7 +41,7 @@ made_lawful k c (saying text draw) next law l checked is =
     (ap (saying_by k c text draw) (sym checked.0) ∙ is)
 made_lawful k c (taking bytes) next law l small is =
     taken_keeps k (take_on k c bytes) next (λ taken gives. take_lawful k c bytes taken l small gives) is
-made_lawful k c (dropping items n) next law l checked is = drop_lawful k c items n next l is
+made_lawful k c (dropping which) next law l checked is = drop_lawful k c which next l is
 
 -- whichever is left
 pub left_lawful : (k : Mechanism) (b : Bool) (a z : Client) → IsLawfulClient k a → IsLawfulClient k z

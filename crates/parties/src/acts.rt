@@ -15,7 +15,7 @@ use dr_base::{Key32, Position};
 use dr_disk::{Call as DiskCall, MemoryDisk};
 use kem_laws::Kem;
 use scripts::Call;
-use session_model::{Answer, Refusal};
+use session_model::{Answer, Refusal, Which};
 
 /// A text, with a seed exactly where the side needs one to say it.
 #[derive(Drop)]
@@ -72,7 +72,7 @@ fn drop_ended(answer: Answer, dropped: Result<(), DropRefusal>) -> Ended
 {
     match dropped {
         Ok(()) => Ended::Acknowledged(answer),
-        Err(DropRefusal::Fewer { held }) => Ended::Refused(Refusal::Fewer(held)),
+        Err(DropRefusal::Refused(refusal)) => Ended::Refused(refusal),
         Err(DropRefusal::StoreFault { call }) => Ended::Faulted(call),
         Err(_) => unreachable!(),
     }
@@ -111,7 +111,8 @@ pub fn perform<K: Kem>(client: &mut Client<K>, disk: &mut MemoryDisk, call: Clie
         Call::Say(Seeded { text, seed }) => say(client, disk, text, seed),
         Call::Take(packet) => take_ended(client.take(disk, packet.as_slice())),
         Call::Drop(items, n) => {
-            drop_ended(Answer::Dropped(items, n), client.drop_items(disk, items, n))
+            let which = Which::Oldest(items, n);
+            drop_ended(Answer::Dropped(which), client.drop_items(disk, which))
         }
     }
 }

@@ -10,7 +10,7 @@ use Rattle.endings.specs.declared.ending.Ending.{Ending}
 use Rattle.kem_laws.specs.Mechanism.{Mechanism}
 use Rattle.relay_wire.specs.Replies.{Replied}
 use Rattle.session_model.specs.Clients.{Client}
-use Rattle.session_model.specs.declared.answer.Items.{Items}
+use Rattle.session_model.specs.declared.answer.Which.{Which}
 use Rattle.sync_model.specs.declared.more.More.{More}
 use Rattle.client.specs.InWorlds.{StandsFor}
 use Rattle.client.specs.Moments.{HaveMoved, IsAmongKnown, Known, settled_in}
@@ -26,16 +26,16 @@ use Rattle.session_commands.specs.Showing.{ShowsIn}
 use Rattle.session_commands.specs.Syncing.{SyncRunsIn}
 
 -- A command that lets the client act once: it says a text, with the draws before and after it,
--- takes a packet, or drops the first items of a box.
+-- takes a packet, or drops items of a box.
 pub data Command (W : Type 0) : Type 0 where
   says : (text : List ℕ) (source left : W) → Command W
   takes : (packet : List ℕ) → Command W
-  drops : (items : Items) (n : ℕ) → Command W
+  drops : (which : Which) → Command W
 
 abbrev pub asked_by : {W : Type 0} → (W → DrawsState) → Mechanism → Command W → ClientAsk
 asked_by draws k (says text source left) = asked_say draws text source left
 asked_by draws k (takes packet) = asked_take k packet
-asked_by draws k (drops items n) = asked_drop (dropping items n)
+asked_by draws k (drops which) = asked_drop (dropping which)
 
 -- a crash now leaves only what one might have left then
 abbrev pub LeavesAlone : DiskState → DiskState → Type 0

@@ -1,4 +1,4 @@
-//! The commands that drop the oldest items of a box.
+//! The commands that drop items of a box.
 
 ghost use Rattle.dr_disk.specs.Spans.{IsQuiet};
 ghost use Rattle.dr_model.specs.Machines.Acts.{dropping};
@@ -15,45 +15,43 @@ use dr_disk::Disk;
 use dr_ports::Sink;
 use endings::{Ending, Status};
 use kem_laws::Kem;
-use session_model::{Answer, Items};
+use session_model::{Answer, Which};
 use std::alloc::Global;
 
-/// Opens the client, which drops the oldest items of a box.
+/// Opens the client, which drops items of a box.
 fn open_and_drop<K: Kem, D: Disk>(
     alloc: Global,
-    items: Items,
-    n: u32,
+    which: Which,
     disk: &mut D,
 ) -> Result<Answer, Ending>
     requires { HasClientRoom (D.state disk.old) }
-    ensures { RunsAct D.state K.mechanism (asked_drop (dropping items n)) disk.old disk.new
+    ensures { RunsAct D.state K.mechanism (asked_drop (dropping which)) disk.old disk.new
         (ending_by result) (lines_of_ending result) }
 {
     match Client::<K>::open(alloc, disk) {
         Err(refusal) => Err(unopened(refusal)),
         Ok(mut client) => {
-            let acted = client.drop_items(disk, items, n);
-            dropped(Answer::Dropped(items, n), acted)
+            let acted = client.drop_items(disk, which);
+            dropped(Answer::Dropped(which), acted)
         }
     }
 }
 
-/// Drops the `n` oldest items of a box: texts of the inbox, which are done, and writes `done N`, or
-/// packets of the outbox, which were sent, and writes `sent N`.
+/// Drops items of a box: texts of the inbox, which are done, and writes `done N`, or packets of the
+/// outbox, which were sent, and writes `sent N`.
 #[inline(never)]
 pub fn drop_items<K: Kem, D: Disk, O: Sink>(
     alloc: Global,
-    items: Items,
-    n: u32,
+    which: Which,
     disk: &mut D,
     out: &mut O,
 ) -> Status
     requires { HasClientRoom (D.state disk.old) }
     ensures { RunsAndCounts
-        (RunsAct D.state K.mechanism (asked_drop (dropping items n)) disk.old disk.new)
+        (RunsAct D.state K.mechanism (asked_drop (dropping which)) disk.old disk.new)
         (IsQuiet (D.state disk.old) (D.state disk.new))
         (O.at out.old) (O.at out.new) result.code }
 {
-    let worked = open_and_drop::<K, D>(alloc, items, n, disk);
+    let worked = open_and_drop::<K, D>(alloc, which, disk);
     close(out, worked)
 }

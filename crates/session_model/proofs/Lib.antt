@@ -1,5 +1,6 @@
 pub mod Latest
 pub mod LawfulKept
+pub mod Leaving
 pub mod Opened
 pub mod Passing
 pub mod Sealed

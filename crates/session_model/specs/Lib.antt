@@ -7,6 +7,7 @@ pub mod LawfulStates
 pub mod Saying
 pub mod Ways
 pub mod Taking
+pub mod Leaving
 pub mod Clients
 pub mod Seen
 pub mod Refusals

@@ -10,8 +10,8 @@ pub enum Answer {
     Said(Position),
     /// The packet of this position was opened.
     Opened(Position),
-    /// This many texts or packets left their box.
-    Dropped(Items, u32),
+    /// These left their box.
+    Dropped(Which),
     /// This many texts stand in the inbox.
     Inbox(u32),
     /// This many of its own texts wait for a receipt.
@@ -28,7 +28,28 @@ pub enum Answer {
     Refused(Refusal),
 }
 
-/// Which items leave a box of a side, the oldest first.
+/// Which items leave a box of a side.
+#[derive(Clone, Copy)]
+pub enum Which {
+    /// This many of the oldest.
+    Oldest(Items, u32),
+}
+
+impl Which {
+    ghost use Rattle.std.specs.Prelude.{◌≡◌};
+    ghost use Rattle.session_model.specs.Leaving.{drops_any};
+
+    /// Whether any leave.
+    pub fn drops_any(self) -> bool
+        ensures { result ≡ drops_any self }
+    {
+        match self {
+            Which::Oldest(_, n) => n > 0,
+        }
+    }
+}
+
+/// Of which box of a side items are.
 #[derive(Clone, Copy)]
 pub enum Items {
     /// Texts that were read leave its inbox.

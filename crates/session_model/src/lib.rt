@@ -4,7 +4,7 @@
 //! sends, the copying of its head in place, and the enums of answers and refusals.
 #![tactic(auto)]
 
-pub use answer::{Amount, Answer, Items, Refusal, Summary};
+pub use answer::{Amount, Answer, Items, Refusal, Summary, Which};
 pub use awaiting::Awaiting;
 pub use part::{Head, LentPart, Own, Phase, Reception, SessionPart, copy_of_key};
 pub use refusals::{ReceiveRefusal, SendRefusal};

@@ -1,10 +1,10 @@
 -- No record is longer than RECORD_LIMIT, also after a change.
-use Rattle.std.proofs.Common.{◌≡◌, ℕ, ◌+◌, ◌*◌, ◌<◌, ◌≤◌, List, [], ◌∷◌, ◌++◌, length, drop, take, Option, Some, None, refl, ap, arith, length-append}
+use Rattle.std.proofs.Common.{◌≡◌, ℕ, ◌+◌, ◌*◌, ◌<◌, ◌≤◌, List, [], ◌∷◌, ◌++◌, length, take, Option, Some, None, refl, ap, arith, length-append}
 use Rattle.std.specs.List.{slice_get}
 use Rattle.std.specs.Prelude.{All}
 use Rattle.std.specs.Int.{w8, w16, w32, to_be_bytes}
-use Rattle.std.proofs.lemmas.List.{length-drop, length_push}
-use Rattle.std.proofs.lemmas.List.Elements.{All-drop, All-head, All-push, All-tail}
+use Rattle.std.proofs.lemmas.List.{length_push}
+use Rattle.std.proofs.lemmas.List.Elements.{All-head, All-push, All-tail}
 use Rattle.boxes.specs.Entries.{Entry, entry_with}
 use Rattle.boxes.specs.Posts.{Post}
 use Rattle.bodies.proofs.Lengths.{length-positions}
@@ -17,7 +17,7 @@ use Rattle.grammar.specs.Printer.{print_counted, print_items, print_maybe}
 use Rattle.grammar.proofs.Printing.{print-next, size-items}
 use Rattle.kem_laws.specs.Mechanism.{IsLawfulMechanism, Mechanism}
 use Rattle.session_model.specs.Clients.{Client}
-use Rattle.session_model.specs.declared.answer.Items.TheVariants.{Packets, Texts}
+use Rattle.session_model.proofs.Leaving.{all_packets, all_texts, fewer_packets, fewer_texts}
 use Rattle.session_model.specs.LawfulStates.{IsLawfulPhase, IsLawfulReception, IsLawfulState}
 use Rattle.session_model.specs.States.{Phase, Reception, State, in_own, in_peers, receiving_epoch}
 use Rattle.session_record.specs.declared.change.Change.{Change}
@@ -156,26 +156,24 @@ module _ {T : Type 0} (bytes_of : T → List ℕ) (limit room : ℕ) (box : List
     short = All-push (λ (one : T). length (bytes_of one) ≤ room) box one before.short short;
   }
 
-  roomy-drop : (n : ℕ) → IsRoomy bytes_of limit room (drop n box)
-  roomy-drop n = record {
-    few = omega (arith, length-drop n box, before.few);
-    short = All-drop (λ (one : T). length (bytes_of one) ≤ room) n box before.short;
-  }
-
 pub roomy-inbox : (inbox : List Entry) (change : Change) → IsRoomyInbox inbox → FitsInbox inbox change → IsRoomyInbox (inbox_after inbox change)
 roomy-inbox inbox (Received position kind text) before fits =
     roomy-push (λ (entry : Entry). entry.text) INBOX_LIMIT TEXT_LIMIT inbox before (entry_with position kind text.now) fits.0 fits.1
-roomy-inbox inbox (Dropped Texts n) before fits = roomy-drop (λ (entry : Entry). entry.text) INBOX_LIMIT TEXT_LIMIT inbox before n
+roomy-inbox inbox (Dropped which) before fits = record {
+  few = omega (arith, fewer_texts which inbox, before.few);
+  short = all_texts (λ (entry : Entry). length entry.text ≤ TEXT_LIMIT) which inbox before.short;
+}
 roomy-inbox inbox Same before fits = before
 roomy-inbox inbox (Said packet) before fits = before
-roomy-inbox inbox (Dropped Packets n) before fits = before
 
 pub roomy-outbox : (k : Mechanism) (outbox : List Post) (change : Change) → IsRoomyOutbox outbox → FitsOutbox outbox change
     → IsRoomyOutbox (outbox_after k outbox change)
 unfolding post_of
 roomy-outbox k outbox (Said packet) before fits =
     roomy-push (λ (post : Post). post.packet) OUTBOX_LIMIT PACKET_LIMIT outbox before (post_of k packet.now) fits.0 fits.1
-roomy-outbox k outbox (Dropped Packets n) before fits = roomy-drop (λ (post : Post). post.packet) OUTBOX_LIMIT PACKET_LIMIT outbox before n
+roomy-outbox k outbox (Dropped which) before fits = record {
+  few = omega (arith, fewer_packets which outbox, before.few);
+  short = all_packets (λ (post : Post). length post.packet ≤ PACKET_LIMIT) which outbox before.short;
+}
 roomy-outbox k outbox Same before fits = before
 roomy-outbox k outbox (Received position kind text) before fits = before
-roomy-outbox k outbox (Dropped Texts n) before fits = before

@@ -8,6 +8,7 @@ ghost use Rattle.dr_base.specs.Buffer.{Puts};
 ghost use Rattle.grammar.specs.Printer.{print_counted, print_items};
 ghost use Rattle.grammar.specs.Reader.{items, sized};
 ghost use Rattle.grammar.specs.Standing.{Reads};
+ghost use Rattle.session_model.specs.Leaving.{left_in_inbox};
 ghost use Rattle.session_record.specs.Changes.{FitsInbox, inbox_after};
 ghost use Rattle.session_record.specs.Fields.{up_to};
 ghost use Rattle.session_record.specs.Lists.{any, entry_field, entry_text, inbox_field};
@@ -19,7 +20,7 @@ use crate::numbers::{read_kind, read_len};
 use boxes::{Entry, Inbox};
 use dr_base::{INBOX_LIMIT, INDEX_LIMIT, Position, TEXT_LIMIT, put, put_u8, put_u16, put_u32};
 use grammar::Cursor;
-use session_model::Items;
+use session_model::{Items, Which};
 
 /// A text after its length, which is at most `limit`.
 fn read_text<'a>(cursor: &mut Cursor<'a>, limit: usize) -> Result<&'a [u8], usize>
@@ -160,6 +161,17 @@ fn put_more(
     put_entry(out, at_last, position, kind, text)
 }
 
+/// The place of the oldest text that is left once items leave their box.
+pub(crate) fn oldest_text_left(inbox: &Inbox, which: Which) -> u32
+    ensures inside { result ≤ length inbox.now }
+    ensures left { drop result inbox.now ≡ left_in_inbox which inbox.now }
+{
+    match which {
+        Which::Oldest(Items::Texts, n) => n.min(inbox.len()),
+        Which::Oldest(Items::Packets, _) => 0,
+    }
+}
+
 /// Puts the inbox as a change leaves it.
 pub(crate) fn put_inbox(out: &mut [u8], at: usize, inbox: &Inbox, change: &Change<'_>) -> usize
     requires fits { FitsInbox inbox.now change.now }
@@ -174,10 +186,7 @@ pub(crate) fn put_inbox(out: &mut [u8], at: usize, inbox: &Inbox, change: &Chang
             kind,
             text,
         } => put_more(out, at, inbox, *position, *kind, text),
-        Change::Dropped { items, n } => match items {
-            Items::Texts => put_later(out, at, inbox, *n),
-            Items::Packets => put_later(out, at, inbox, 0),
-        },
+        Change::Dropped(which) => put_later(out, at, inbox, oldest_text_left(inbox, *which)),
         Change::Same | Change::Said { .. } => put_later(out, at, inbox, 0),
     }
 }

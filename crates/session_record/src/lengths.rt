@@ -16,12 +16,14 @@ ghost use Rattle.session_record.specs.Versions.{newest};
 
 use crate::change::Change;
 use crate::encoding::is_short;
+use crate::inbox::oldest_text_left;
 use crate::kept::{are_long, is_long};
 use crate::limits::{COUNT_SIZE, ENTRY_SIZE, HEADING_SIZE, KEPT_SIZE, PLACE_SIZE, STREAM_SIZE};
+use crate::outbox::oldest_packet_left;
 use boxes::{Inbox, Outbox};
 use dr_base::Kept;
 use kem_laws::Kem;
-use session_model::{Items, LentPart, Phase, Reception};
+use session_model::{LentPart, Phase, Reception};
 
 /// The length of what a record begins with.
 fn heading_len<K: Kem>(part: &LentPart<'_, K>) -> usize
@@ -103,10 +105,7 @@ fn inbox_len(inbox: &Inbox, change: &Change<'_>) -> usize
 {
     match change {
         Change::Received { text, .. } => 1 + entries_len(inbox, 0) + ENTRY_SIZE + text.len(),
-        Change::Dropped { items, n } => match items {
-            Items::Texts => 1 + entries_len(inbox, *n),
-            Items::Packets => 1 + entries_len(inbox, 0),
-        },
+        Change::Dropped(which) => 1 + entries_len(inbox, oldest_text_left(inbox, *which)),
         Change::Same | Change::Said { .. } => 1 + entries_len(inbox, 0),
     }
 }
@@ -135,10 +134,7 @@ fn outbox_len<K: Kem>(outbox: &Outbox, change: &Change<'_>) -> usize
 {
     match change {
         Change::Said { packet } => 1 + posts_len(outbox, 0) + 2 + packet.len(),
-        Change::Dropped { items, n } => match items {
-            Items::Packets => 1 + posts_len(outbox, *n),
-            Items::Texts => 1 + posts_len(outbox, 0),
-        },
+        Change::Dropped(which) => 1 + posts_len(outbox, oldest_packet_left(outbox, *which)),
         Change::Same | Change::Received { .. } => 1 + posts_len(outbox, 0),
     }
 }

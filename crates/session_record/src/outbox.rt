@@ -8,6 +8,7 @@ ghost use Rattle.dr_base.specs.declared.position.Position.{Position};
 ghost use Rattle.grammar.specs.Printer.{print_counted, print_items};
 ghost use Rattle.grammar.specs.Reader.{items};
 ghost use Rattle.grammar.specs.Standing.{Reads};
+ghost use Rattle.session_model.specs.Leaving.{left_in_outbox};
 ghost use Rattle.session_record.specs.Changes.{FitsOutbox, outbox_after};
 ghost use Rattle.session_record.specs.Lists.{outbox_field, post_field, post_of, post_text};
 
@@ -20,7 +21,7 @@ use dr_base::{OUTBOX_LIMIT, PACKET_LIMIT, Position, put, put_u8, put_u16};
 use grammar::Cursor;
 use kem_laws::{Kem, laws};
 use packet::{grammar, parse};
-use session_model::Items;
+use session_model::{Items, Which};
 
 /// A packet of the session, of an own epoch, and its position.
 #[tactic(auto, unfolding(crate::specs::Lists::post_field, crate::specs::Lists::is_post, crate::specs::Lists::post_of))]
@@ -146,6 +147,17 @@ fn put_more<K: Kem>(out: &mut [u8], at: usize, outbox: &Outbox, packet: &[u8]) -
     put_post(out, at_last, packet)
 }
 
+/// The place of the oldest packet that is left once items leave their box.
+pub(crate) fn oldest_packet_left(outbox: &Outbox, which: Which) -> u32
+    ensures inside { result ≤ length outbox.now }
+    ensures left { drop result outbox.now ≡ left_in_outbox which outbox.now }
+{
+    match which {
+        Which::Oldest(Items::Texts, _) => 0,
+        Which::Oldest(Items::Packets, n) => n.min(outbox.len()),
+    }
+}
+
 /// Puts the outbox as a change leaves it.
 pub(crate) fn put_outbox<K: Kem>(
     out: &mut [u8],
@@ -161,10 +173,7 @@ pub(crate) fn put_outbox<K: Kem>(
 {
     match change {
         Change::Said { packet } => put_more::<K>(out, at, outbox, packet),
-        Change::Dropped { items, n } => match items {
-            Items::Packets => put_later(out, at, outbox, *n),
-            Items::Texts => put_later(out, at, outbox, 0),
-        },
+        Change::Dropped(which) => put_later(out, at, outbox, oldest_packet_left(outbox, *which)),
         Change::Same | Change::Received { .. } => put_later(out, at, outbox, 0),
     }
 }

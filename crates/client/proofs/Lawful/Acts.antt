@@ -2,13 +2,11 @@
 use Rattle.std.proofs.Common.{Bool, Err, List, None, Ok, Option, Result, Some, arith, length, refl, subst, true, ℕ, ◌++◌, ◌<◌, ◌∷◌, ◌≡◌, []}
 use Rattle.std.specs.Prelude.{nat_le, nat_lt}
 use Rattle.std.proofs.lemmas.Bool.Decides.{nat_tests}
-use Rattle.std.proofs.lemmas.List.{length-drop}
-use Rattle.std.proofs.lemmas.List.Elements.{All-drop}
 use Rattle.boxes.specs.Entries.{entry_with}
 use Rattle.cka.specs.Agreement.{agreement_size}
 use Rattle.dr_base.specs.declared.limits.TheConstants.{INBOX_LIMIT, OUTBOX_LIMIT, TEXT_LIMIT}
-use Rattle.dr_model.specs.Machines.Acts.{act_on, dropped_client, dropping, standing_with}
-use Rattle.dr_model.specs.Machines.Steps.{Step, step}
+use Rattle.dr_model.specs.Machines.Acts.{act_on, dropped_client, dropping}
+use Rattle.dr_model.specs.Machines.Steps.{Step, leaving, step}
 use Rattle.kem_laws.specs.Mechanism.{IsLawfulMechanism, Mechanism}
 use Rattle.packet.specs.Packet.{Fields, IsLawful}
 use Rattle.dr_base.specs.Bytes.{AreBytes}
@@ -19,15 +17,16 @@ use Rattle.session_model.specs.Clients.{Client, SaidText, TakenPacket, accept_re
 use Rattle.session_model.specs.Saying.{SendDraft, draft_send, phase_check}
 use Rattle.session_model.specs.Taking.{ReceiveDraft, draft_receive}
 use Rattle.session_model.specs.declared.answer.Answer.TheVariants.{Dropped}
-use Rattle.session_model.specs.declared.answer.Items.{Items}
-use Rattle.session_model.specs.declared.answer.Items.TheVariants.{Packets, Texts}
+use Rattle.session_model.specs.Leaving.{drop_check}
 use Rattle.session_model.specs.declared.answer.Refusal.{Refusal}
 use Rattle.session_model.specs.declared.answer.Refusal.TheVariants.{NoPair}
+use Rattle.session_model.specs.declared.answer.Which.{Which}
 use Rattle.session_record.specs.Lawful.{IsLawfulClient, IsLawfulEntry, IsLawfulPost}
 use Rattle.client.proofs.Lawful.Drafts.{send_lawful}
 use Rattle.client.proofs.Lawful.Saying.{passed_check, said_lawful}
 use Rattle.client.proofs.Lawful.Taking.{taken_lawful}
-use Rattle.session_model.proofs.Passing.{lets, passes}
+use Rattle.session_model.proofs.Leaving.{all_packets, all_texts, fewer_packets, fewer_texts}
+use Rattle.session_model.proofs.Passing.{passes}
 use Rattle.client.proofs.Lawful.Ways.{receive_lawful}
 
 -- ---- a text is said
@@ -87,29 +86,24 @@ take_lawful k c bytes taken l small is = by_fields (read_packet (agreement_size 
 
 -- ---- items are dropped
 
-pub dropped_lawful : (k : Mechanism) (c : Client) (items : Items) (n : ℕ) → IsLawfulClient k c
-    → IsLawfulClient k (dropped_client c items n)
-dropped_lawful k c Texts n l = record {
+pub dropped_lawful : (k : Mechanism) (c : Client) (which : Which) → IsLawfulClient k c
+    → IsLawfulClient k (dropped_client c which)
+dropped_lawful k c which l = record {
   state = l.state;
   keys_long = l.keys_long;
-  inbox = All-drop (IsLawfulEntry c.state) n c.inbox l.inbox;
-  few_entries = omega (arith, length-drop n c.inbox, l.few_entries);
-  outbox = l.outbox;
-  few_posts = l.few_posts;
-}
-dropped_lawful k c Packets n l = record {
-  state = l.state;
-  keys_long = l.keys_long;
-  inbox = l.inbox;
-  few_entries = l.few_entries;
-  outbox = All-drop (IsLawfulPost k c.state) n c.outbox l.outbox;
-  few_posts = omega (arith, length-drop n c.outbox, l.few_posts);
+  inbox = all_texts (IsLawfulEntry c.state) which c.inbox l.inbox;
+  few_entries = omega (arith, fewer_texts which c.inbox, l.few_entries);
+  outbox = all_packets (IsLawfulPost k c.state) which c.outbox l.outbox;
+  few_posts = omega (arith, fewer_packets which c.outbox, l.few_posts);
 }
 
-pub drop_lawful : (k : Mechanism) (c : Client) (items : Items) (n : ℕ) (made : Step Client) → IsLawfulClient k c
-    → act_on k c (dropping items n) ≡ Ok made → IsLawfulClient k made.next
-drop_lawful k c items n made l is =
-    let one = step (Dropped items n) (dropped_client c items n) in
-    let through : Ok one ≡ Ok made = lets (nat_le n (standing_with c items)) _ (Ok one) made is in
-    let same : one ≡ made = cc in
-    subst (λ (m : Step Client). IsLawfulClient k m.next) same (dropped_lawful k c items n l)
+left_lawful : (k : Mechanism) (c : Client) (which : Which) (check : Result Unit Refusal) (made : Step Client)
+    → IsLawfulClient k c → leaving which check (dropped_client c which) ≡ Ok made → IsLawfulClient k made.next
+left_lawful k c which (Err refusal) made l is = absurd (cc is)
+left_lawful k c which (Ok stand) made l is =
+    let same : step (Dropped which) (dropped_client c which) ≡ made = cc in
+    subst (λ (m : Step Client). IsLawfulClient k m.next) same (dropped_lawful k c which l)
+
+pub drop_lawful : (k : Mechanism) (c : Client) (which : Which) (made : Step Client) → IsLawfulClient k c
+    → act_on k c (dropping which) ≡ Ok made → IsLawfulClient k made.next
+drop_lawful k c which made l is = left_lawful k c which (drop_check which c.inbox c.outbox) made l is

@@ -1,6 +1,6 @@
 -- What a sync opens, in a world that the client stands for.
-use Rattle.std.proofs.Common.{Bool, List, Result, [], ap, false, inl, inr, refl, subst, sym, true, zero, suc, ℕ, ◌++◌, ◌+◌, ◌∙◌, ◌∷◌, ◌≡◌, ◌⊎◌}
-use Rattle.std.specs.Prelude.{if◌then◌else◌, length, map, nat_le}
+use Rattle.std.proofs.Common.{Bool, Err, List, Ok, Result, [], ap, false, inl, inr, refl, subst, sym, true, zero, suc, ℕ, ◌++◌, ◌+◌, ◌∙◌, ◌∷◌, ◌≡◌, ◌⊎◌}
+use Rattle.std.specs.Prelude.{if◌then◌else◌, length, map}
 use Rattle.dr_model.proofs.Growth.SaidStays.{with_view_leaves}
 use Rattle.dr_base.specs.declared.position.Position.{Position}
 use Rattle.dr_base.specs.declared.position.Side.{Side}
@@ -11,7 +11,7 @@ use Rattle.dr_model.specs.Conversations.Views.{View, after_opening, has_opened}
 use Rattle.dr_model.specs.Machines.Acts.{act_on, taking}
 use Rattle.dr_model.specs.Machines.WorldActs.{act_in}
 use Rattle.dr_model.specs.Machines.Events.{does, of_bytes, of_position, takes}
-use Rattle.dr_model.specs.Machines.Steps.{Step, settled}
+use Rattle.dr_model.specs.Machines.Steps.{Step, leaving, settled}
 use Rattle.dr_model.specs.Machines.Worlds.{World, outbox_in, step_of, view_of, with_view}
 use Rattle.dr_model.specs.Theorems.Fairness.{IsUnforged}
 use Rattle.dr_model.specs.Theorems.Headline.{IsWithinLimits}
@@ -20,11 +20,13 @@ use Rattle.dr_model.proofs.Worlds.Runs.{opened_within, refusal_changes_nothing, 
 use Rattle.kem_laws.specs.Mechanism.{Mechanism}
 use Rattle.relay_core.specs.Boxes.{Kept}
 use Rattle.session_model.specs.Clients.{Client}
+use Rattle.session_model.specs.Leaving.{enough}
+use Rattle.session_model.specs.declared.answer.Items.TheVariants.{Packets}
 use Rattle.session_model.specs.declared.answer.Refusal.{Refusal}
 use Rattle.session_model.specs.declared.answer.Refusal.TheVariants.{Spent}
+use Rattle.session_model.specs.declared.answer.Which.TheVariants.{Oldest}
 use Rattle.sync_model.specs.Parties.{Party}
 use Rattle.sync_model.specs.Transfers.{HasRoom, sent_all, taken_all}
-use Rattle.sync_model.proofs.Cases.{by_test}
 use Rattle.client.specs.Grounds.{Grounds}
 use Rattle.client.specs.Syncing.Arrivals.{AreExpected, IsExpected, OpensArrived, opened_too}
 use Rattle.client.specs.Syncing.InWorlds.{IsKeptIn}
@@ -90,12 +92,18 @@ record IsSame (side : Side) (w next : World) : Type 0 where
   conversation : next.conversation ≡ w.conversation
   arrived : (view_of next side).arrived ≡ (view_of w side).arrived
 
+left_same : (w : World) (side : Side) (v : View) (check : Result Unit Refusal) → v.arrived ≡ (view_of w side).arrived
+    → IsSame side w (settled w (leaving (Oldest Packets 1) check (with_view w side v))).next
+left_same w side v (Ok stand) same = record {
+  conversation = with_view_leaves w side v;
+  arrived = ap (λ (x : View). x.arrived) (with_view_is w side v) ∙ same;
+}
+left_same w side v (Err refusal) same = record { conversation = refl; arrived = refl }
+
 one_sent : (k : Mechanism) (w : World) (side : Side) → IsSame side w (act_in k w side oldest_sent).next
 one_sent k w side =
     let v = view_of w side in
-    by_test (λ (r : Result (Step World) Refusal). IsSame side w (settled w r).next) (nat_le 1 (length (outbox_in k w side))) _ _
-    (λ some. record { conversation = with_view_leaves w side (record v { dropped = v.dropped + 1 }); arrived = ap (λ (x : View). x.arrived) (with_view_is w side (record v { dropped = v.dropped + 1 })) })
-    (λ none. record { conversation = refl; arrived = refl })
+    left_same w side (record v { dropped = v.dropped + 1 }) (enough 1 (length (outbox_in k w side))) refl
 
 -- ---- all of them
 

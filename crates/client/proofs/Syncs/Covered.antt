@@ -1,5 +1,5 @@
 -- What the receipts of a sync's packets cover was opened by the other side.
-use Rattle.std.proofs.Common.{Bool, Err, List, None, Ok, Option, Some, ap, false, if◌then◌else◌, inl, inr, length, nat_le, nat_lt, refl, subst, sym, true, ℕ, ◌++◌, ◌∙◌, ◌≡◌}
+use Rattle.std.proofs.Common.{Bool, Err, List, None, Ok, Option, Result, Some, ap, false, if◌then◌else◌, inl, inr, length, nat_le, nat_lt, refl, subst, sym, true, ℕ, ◌++◌, ◌∙◌, ◌≡◌}
 use Rattle.std.specs.List.{list_any}
 use Rattle.std.proofs.lemmas.Bool.{cases_Bool}
 use Rattle.dr_base.specs.Position.{is_at, is_own, peer_of}
@@ -10,7 +10,7 @@ use Rattle.dr_base.specs.declared.position.Side.TheVariants.{First, Second}
 use Rattle.dr_model.specs.Conversations.Views.{View, after_drop, after_opening, has_opened, missing_of}
 use Rattle.dr_model.specs.Machines.Acts.{taking}
 use Rattle.dr_model.specs.Machines.Events.{of_bytes}
-use Rattle.dr_model.specs.Machines.Steps.{Step, settled, step}
+use Rattle.dr_model.specs.Machines.Steps.{Step, leaving, settled, step}
 use Rattle.dr_model.specs.Machines.WorldActs.{act_in}
 use Rattle.dr_model.specs.Machines.Worlds.{World, inbox_in, made_at, standing_in, taking_in, taking_made, view_of, with_view}
 use Rattle.dr_model.specs.Theorems.Fairness.{IsUnforged}
@@ -19,11 +19,13 @@ use Rattle.dr_model.specs.Theorems.Receipts.{EndsWaiting, waits_in}
 use Rattle.dr_model.proofs.Receipts.Arrived.{taking_arrives}
 use Rattle.kem_laws.specs.Mechanism.{Mechanism}
 use Rattle.relay_wire.specs.Replies.{Replied}
+use Rattle.session_model.specs.Leaving.{enough}
 use Rattle.session_model.specs.declared.answer.Answer.{Answer}
-use Rattle.session_model.specs.declared.answer.Answer.TheVariants.{Dropped, Opened}
+use Rattle.session_model.specs.declared.answer.Answer.TheVariants.{Opened}
 use Rattle.session_model.specs.declared.answer.Items.TheVariants.{Packets}
 use Rattle.session_model.specs.declared.answer.Refusal.{Refusal}
-use Rattle.session_model.specs.declared.answer.Refusal.TheVariants.{Fewer, InboxFull, OwnPacket, SkipLimit, Spent}
+use Rattle.session_model.specs.declared.answer.Refusal.TheVariants.{InboxFull, OwnPacket, SkipLimit, Spent}
+use Rattle.session_model.specs.declared.answer.Which.TheVariants.{Oldest}
 use Rattle.sync_model.specs.Courses.{begun}
 use Rattle.client.specs.Syncing.InWorlds.{AreUnforged, course_in}
 use Rattle.client.specs.Syncing.Parties.{oldest_sent, world_party}
@@ -69,20 +71,22 @@ module _ (k : Mechanism) (side : Side) where
     take_leaves : (packet : List ℕ) → LeavesOther w (act_in k w side (taking packet))
     take_leaves packet = made_leaves packet (made_at k w packet)
 
-    -- the oldest packet leaves the outbox, if one stands in it
-    abbrev sent_by : Bool → Step World
-    sent_by some =
-        settled w (if some then Ok (step (Dropped Packets 1) (with_view w side (after_drop (view_of w side) Packets 1)))
-        else Err (Fewer (standing_in k w side Packets)))
+    -- the view once the oldest packet has left the outbox
+    abbrev sent_view : View
+    sent_view = after_drop w.conversation (view_of w side) (Oldest Packets 1)
 
-    sent_leaves : (some : Bool) → LeavesOther w (sent_by some)
-    sent_leaves true = other_view w side (after_drop (view_of w side) Packets 1)
-    sent_leaves false = refl
+    -- it leaves, if one stands in it
+    abbrev sent_by : Result Unit Refusal → Step World
+    sent_by check = settled w (leaving (Oldest Packets 1) check (with_view w side sent_view))
+
+    sent_leaves : (check : Result Unit Refusal) → LeavesOther w (sent_by check)
+    sent_leaves (Ok stand) = other_view w side sent_view
+    sent_leaves (Err refusal) = refl
 
     -- the own texts that wait stay those that they were
-    sent_waits : (p : Position) (some : Bool) → waits_in (sent_by some).next side p ≡ waits_in w side p
-    sent_waits p true = ap (λ (v : View). list_any (is_at p) v.awaiting) (own_view w side (after_drop (view_of w side) Packets 1))
-    sent_waits p false = refl
+    sent_waits : (p : Position) (check : Result Unit Refusal) → waits_in (sent_by check).next side p ≡ waits_in w side p
+    sent_waits p (Ok stand) = ap (λ (v : View). list_any (is_at p) v.awaiting) (own_view w side sent_view)
+    sent_waits p (Err refusal) = refl
 
   -- ---- a text whose waiting ends
 
@@ -114,8 +118,8 @@ module _ (k : Mechanism) (side : Side) where
     sends_on : (w : World) → LeadsOn w (act_in k w side oldest_sent).next
     sends_on w lawful = record {
       lawful = lawful_at k w (act_in k w side oldest_sent).next lawful (act_later k side w oldest_sent tt);
-      others = sent_leaves w (nat_le 1 (standing_in k w side Packets));
-      arrived = none_ended w (act_in k w side oldest_sent).next (sent_waits w p (nat_le 1 (standing_in k w side Packets)));
+      others = sent_leaves w (enough 1 (standing_in k w side Packets));
+      arrived = none_ended w (act_in k w side oldest_sent).next (sent_waits w p (enough 1 (standing_in k w side Packets)));
     }
 
     both : (u v w : World) → LeadsOn u v → LeadsOn v w → LeadsOn u w

@@ -10,7 +10,7 @@ use Rattle.dr_base.specs.declared.limits.TheConstants.{INBOX_LIMIT, OUTBOX_LIMIT
 use Rattle.dr_base.specs.declared.position.Side.{Side}
 use Rattle.dr_base.specs.declared.position.Side.TheVariants.{First, Second}
 use Rattle.dr_model.specs.Machines.Acts.{taken_by}
-use Rattle.dr_model.specs.Machines.Steps.{leaving, settled, step}
+use Rattle.dr_model.specs.Machines.Steps.{leaving, settled}
 use Rattle.hex.specs.Hex.{encode_lower}
 use Rattle.kem_laws.specs.Mechanism.{Mechanism}
 use Rattle.packet.specs.Packet.{Fields}
@@ -19,10 +19,11 @@ use Rattle.packet.specs.declared.fault.Malformed.{Malformed}
 use Rattle.relay_wire.specs.Names.{is_name}
 use Rattle.session_model.specs.Clients.{Client, TakenPacket, accept_receive, take_on, take_read}
 use Rattle.session_model.specs.Taking.{ReceiveDraft, draft_receive}
-use Rattle.session_model.specs.declared.answer.Answer.TheVariants.{Dropped}
+use Rattle.session_model.specs.Leaving.{enough}
 use Rattle.session_model.specs.declared.answer.Items.TheVariants.{Packets}
 use Rattle.session_model.specs.declared.answer.Refusal.{Refusal}
 use Rattle.session_model.specs.declared.answer.Refusal.TheVariants.{Fewer}
+use Rattle.session_model.specs.declared.answer.Which.TheVariants.{Oldest}
 use Rattle.session_record.specs.Lawful.{IsLawfulPost}
 use Rattle.session_model.specs.States.{State}
 use Rattle.sync_model.proofs.Asking.{ArePackets}
@@ -48,14 +49,17 @@ boxes_apart kept = names_apart kept.state.session kept.state.side
 
 -- ---- the outbox
 
+abbrev one_left : Client → List Post → Result Unit Refusal → List Post
+one_left t left check = (settled t (leaving (Oldest Packets 1) check (record t { outbox = left }))).next.outbox
+
 one_gone : (t : Client) (items : List Post) → t.outbox ≡ items
-    → map (λ (i : Post). i.packet) (settled t (leaving Packets 1 (length items) (record t { outbox = drop 1 items }))).next.outbox
+    → map (λ (i : Post). i.packet) (one_left t (drop 1 items) (enough 1 (length items)))
     ≡ drop 1 (map (λ (i : Post). i.packet) items)
 one_gone t [] is = ap (map (λ (i : Post). i.packet)) is
 one_gone t (item ∷ items) is = by_room (nat_le 1 (length (item ∷ items))) (grind (arith, nat_tests))
   where
     by_room : (room : Bool) → room ≡ true
-        → map (λ (i : Post). i.packet) (settled t (if room then Ok (step (Dropped Packets 1) (record t { outbox = items })) else Err (Fewer (length (item ∷ items))))).next.outbox
+        → map (λ (i : Post). i.packet) (one_left t items (if room then Ok tt else Err (Fewer (length (item ∷ items)))))
         ≡ map (λ (i : Post). i.packet) items
     by_room true room = refl
     by_room false room = absurd (let e : false ≡ true = room in cc)

@@ -14,6 +14,7 @@ use Rattle.session_model.specs.declared.answer.Answer.TheVariants.{Refused}
 use Rattle.session_model.specs.declared.answer.Items.TheVariants.{Packets}
 use Rattle.session_model.specs.declared.answer.Refusal.{Refusal}
 use Rattle.session_model.specs.declared.answer.Refusal.TheVariants.{InboxFull}
+use Rattle.session_model.specs.declared.answer.Which.TheVariants.{Oldest}
 use Rattle.sync_model.specs.Parties.{Party, TookPacket}
 use Rattle.client.specs.Syncing.Lines.{answer_line, end_line, own_box, peers_box, stored_line}
 
@@ -42,7 +43,7 @@ taken_step k kept packet = settled kept (act_on k kept (taking packet))
 
 -- the oldest packet of the outbox has gone
 abbrev pub oldest_sent : Act
-oldest_sent = dropping Packets 1
+oldest_sent = dropping (Oldest Packets 1)
 
 abbrev pub sent_step : Mechanism → Client → Step Client
 sent_step k kept = settled kept (act_on k kept oldest_sent)

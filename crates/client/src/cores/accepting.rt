@@ -1,14 +1,15 @@
 //! A draft is accepted: the core changes as it says.
 
-ghost use Rattle.std.specs.Prelude.{◌≡◌};
-ghost use Rattle.dr_model.specs.Machines.Acts.{dropped_client};
+ghost use Rattle.std.specs.Prelude.{◌≡◌, ◌≤◌};
+ghost use Rattle.dr_model.specs.Machines.Acts.{dropped_client, standing_with};
+ghost use Rattle.session_model.specs.declared.answer.Which.TheVariants.{Oldest};
 ghost use Rattle.client.specs.Drafting.{HasToDrop, IsDraftOf, IsReceivedOf, IsSaidOf, drafted_client, received_client, said_client};
 
 use super::drafts::Draft;
 use super::showing::Core;
 use kem_laws::Kem;
 use ratchet::{ReceiveDraft, SendDraft};
-use session_model::Items;
+use session_model::{Items, Which};
 
 impl<K: Kem> Core<K> {
     /// Accepts a draft of what it keeps.
@@ -21,7 +22,7 @@ impl<K: Kem> Core<K> {
         match draft {
             Draft::Said(said) => self.accept_said(said),
             Draft::Received(received) => self.accept_received(received),
-            Draft::Dropped(items, n) => self.accept_dropped(items, n),
+            Draft::Dropped(which) => self.accept_dropped(which),
         }
     }
 
@@ -45,9 +46,20 @@ impl<K: Kem> Core<K> {
         draft.accept(&mut self.session);
     }
 
-    fn accept_dropped(&mut self, items: Items, n: u32)
-        requires { HasToDrop self.old items n }
-        ensures { self.new ≡ dropped_client self.old items n }
+    #[tactic(auto, using(session_model::proofs::Leaving::enough_held))]
+    fn accept_dropped(&mut self, which: Which)
+        requires { HasToDrop self.old which }
+        ensures { self.new ≡ dropped_client self.old which }
+    {
+        match which {
+            Which::Oldest(items, n) => self.drop_first(items, n),
+        }
+    }
+
+    /// Drops the `n` oldest items of a box.
+    fn drop_first(&mut self, items: Items, n: u32)
+        requires { n ≤ standing_with self.old items }
+        ensures { self.new ≡ dropped_client self.old (Oldest items n) }
     {
         match items {
             Items::Texts => self.inbox.drop_first(n).unwrap(),

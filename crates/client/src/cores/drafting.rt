@@ -1,21 +1,22 @@
 //! The steps of a core are drafted: a text that is said, a packet that is taken, and items that are
 //! dropped.
 
-ghost use Rattle.std.specs.Prelude.{◌≡◌, ◌≤◌, ◌<◌, Ok, IfOk, IfErr, OnOk, MatchResult, is_some, length};
-ghost use Rattle.dr_model.specs.Machines.Acts.{act_on, dropping, standing_with};
+ghost use Rattle.std.specs.Prelude.{◌≡◌, Ok, IfOk, IfErr, is_some, length};
+ghost use Rattle.dr_model.specs.Machines.Acts.{act_on, dropped_client, dropping, standing_with};
+ghost use Rattle.dr_model.specs.Machines.Steps.{leaving};
 ghost use Rattle.ratchet.specs.Seen.{received_of, said_of, seed_bytes};
 ghost use Rattle.session_model.specs.Clients.{accept_send, say_check, say_on};
 ghost use Rattle.session_model.specs.Drafts.{IsReceiveDraft, IsSendDraft};
 ghost use Rattle.session_model.specs.LawfulStates.{IsLawfulState};
-ghost use Rattle.client.specs.Drafting.{DraftsFor, HasToDrop, IsReceivedOf, IsSaidOf, dropped_by, said_if};
+ghost use Rattle.session_model.specs.Leaving.{drop_check, enough};
+ghost use Rattle.client.specs.Drafting.{DraftsFor, IsReceivedOf, IsSaidOf, said_if};
 
 use super::showing::Core;
-use boxes::Fewer;
 use dr_base::{INBOX_LIMIT, Key32, OUTBOX_LIMIT, TEXT_LIMIT};
 use kem_laws::{Kem, laws};
 use packet::parse;
 use ratchet::{NoPairFor, OpeningRoom, PacketRoom, ReceiveDraft, SendDraft, Session};
-use session_model::{Items, LentPart, Refusal};
+use session_model::{Items, LentPart, Refusal, Which};
 
 /// A part is a lawful state: a caller that needs this calls it.
 pub(super) fn lawful_part<K: Kem>(part: &LentPart<'_, K>)
@@ -40,14 +41,14 @@ fn lawful_taken<K: Kem>(draft: &ReceiveDraft<'_, K>, session: &Session<K>)
     lawful_part(&draft.part(session));
 }
 
-/// Whether so many of the items that are held can be dropped.
-fn enough(held: u32, n: u32) -> Result<(), Fewer>
-    ensures { MatchResult result (λ _. n ≤ held) (λ fewer. (fewer.held ≡ held) × (held < n)) }
+/// Whether so many can leave where this many are held.
+fn enough(n: u32, held: u32) -> Result<(), Refusal>
+    ensures { result ≡ enough n held }
 {
-    if held < n {
-        return Err(Fewer { held });
+    if n <= held {
+        return Ok(());
     }
-    Ok(())
+    Err(Refusal::Fewer(held))
 }
 
 impl<K: Kem> Core<K> {
@@ -135,12 +136,14 @@ impl<K: Kem> Core<K> {
         }
     }
 
-    /// Whether so many items can be dropped from a box: `Fewer` exactly where fewer stand.
-    pub fn drop_check(&self, items: Items, n: u32) -> Result<(), Fewer>
-        ensures exact { act_on K.mechanism self.now (dropping items n)
-            ≡ dropped_by self.now items n result }
-        ensures fits { OnOk result (HasToDrop self.now items n) }
+    /// Whether a box has what is to leave it: `Fewer` exactly where fewer stand.
+    pub fn drop_check(&self, which: Which) -> Result<(), Refusal>
+        ensures value { result ≡ drop_check which self.now.inbox self.now.outbox }
+        ensures exact { act_on K.mechanism self.now (dropping which)
+            ≡ leaving which result (dropped_client self.now which) }
     {
-        enough(self.standing(items), n)
+        match which {
+            Which::Oldest(items, n) => enough(n, self.standing(items)),
+        }
     }
 }

@@ -2,7 +2,7 @@
 
 use kem_laws::Kem;
 use ratchet::{ReceiveDraft, SendDraft};
-use session_model::Items;
+use session_model::Which;
 
 /// What would change of a core. It changes nothing until it is accepted.
 ///
@@ -12,8 +12,8 @@ pub enum Draft<'a, K: Kem> {
     Said(SendDraft<'a, K>),
     /// A packet is taken, and its text stands in the inbox.
     Received(ReceiveDraft<'a, K>),
-    /// So many of the oldest items of a box are dropped, which has as many.
-    Dropped(Items, u32),
+    /// Items leave a box, which has them.
+    Dropped(Which),
 }
 
 impl<K: Kem> Draft<'_, K> {
@@ -22,7 +22,7 @@ impl<K: Kem> Draft<'_, K> {
         match self {
             Draft::Said(draft) => draft.discard(),
             Draft::Received(draft) => draft.discard(),
-            Draft::Dropped(_, _) => {}
+            Draft::Dropped(_) => {}
         }
     }
 }

@@ -37,12 +37,9 @@ impl<K: Kem> Core<K> {
                     text: received.text(),
                 },
             },
-            Draft::Dropped(items, n) => Written {
+            Draft::Dropped(which) => Written {
                 part: self.session.part(),
-                change: Change::Dropped {
-                    items: *items,
-                    n: *n,
-                },
+                change: Change::Dropped(*which),
             },
         }
     }

@@ -29,7 +29,7 @@ use kem_laws::Kem;
 use ratchet::ReceiveDraft;
 use relay_pipe::{AskFault, ask};
 use relay_wire::{FrameReader, Packet, Reply, Request};
-use session_model::{Answer, Items, Refusal};
+use session_model::{Answer, Items, Refusal, Which};
 
 /// What came of a request.
 fn heard<'a>(replied: Result<Reply<'a>, AskFault>) -> Result<Reply<'a>, SyncFault>
@@ -110,7 +110,7 @@ impl<K: Kem> Client<K> {
             (D.state disk.old) (D.state disk.new) result }
         ensures fewer { OnOk result (length self.new.kept.outbox < length self.old.kept.outbox) }
     {
-        match drop_exact::<K, Client<K>, D>(self, disk, Items::Packets, 1) {
+        match drop_exact::<K, Client<K>, D>(self, disk, Which::Oldest(Items::Packets, 1)) {
             Ok(()) => Ok(()),
             Err(DropRefusal::StoreFault { call }) => Err(call),
             Err(_) => unreachable!(),

@@ -6,14 +6,16 @@ use Rattle.dr_base.specs.declared.position.Side.{Side}
 use Rattle.dr_base.specs.declared.position.Side.TheVariants.{First, Second}
 use Rattle.kem_laws.specs.Mechanism.{IsLawfulMechanism, Mechanism}
 use Rattle.session_model.specs.Clients.{Client, say_check}
-use Rattle.dr_model.specs.Machines.Acts.{Act, act_on, needs_seed, saying, taking}
-use Rattle.dr_model.specs.Machines.Sides.{Sides, client_of, step_on}
+use Rattle.session_model.specs.declared.answer.Which.{Which}
+use Rattle.session_model.specs.declared.answer.Which.TheVariants.{Oldest}
+use Rattle.dr_model.specs.Machines.Acts.{Act, act_on, dropping, needs_seed, saying, taking}
+use Rattle.dr_model.specs.Machines.Sides.{Sides, called_on, client_of, settled_on, step_on}
 use Rattle.dr_model.specs.Machines.Steps.{Step, settled}
-use Rattle.dr_model.specs.Machines.WorldActs.{act_in, event_of, kept_by, with_draw, world_for}
+use Rattle.dr_model.specs.Machines.WorldActs.{act_in, drop_call, event_of, kept_by, with_draw, world_for}
 use Rattle.dr_model.specs.Machines.WorldSides.{kept_in, sides_of}
 use Rattle.dr_model.specs.Machines.Worlds.{World}
 use Rattle.dr_model.specs.Theorems.Acting.{IsDrawn, IsFairAct}
-use Rattle.dr_model.specs.Theorems.Fairness.{IsFair}
+use Rattle.dr_model.specs.Theorems.Fairness.{IsFair, IsUnforgedCall}
 use Rattle.dr_model.specs.Theorems.LawfulWorlds.{IsLawfulWorld}
 use Rattle.dr_model.proofs.Acting.Keeping.{Leaves, kept_on, saying_kept, saying_leaves, settled_kept, settled_leaves}
 use Rattle.dr_model.proofs.Saying.SayingChecks.{same_check}
@@ -39,12 +41,21 @@ pub lawful_for : (k : Mechanism) (w : World) (side : Side) (act : Act) → IsLaw
 lawful_for k w side (saying text draw) lawful fair = lawful_draw k w side (length text) draw lawful fair
 lawful_for k w side act lawful fair = lawful
 
--- and the event is fair
+-- the call by which items leave makes up no bytes
+drop_unforged : (k : Mechanism) (w : World) (side : Side) (which : Which) → IsUnforgedCall k w side (drop_call which)
+drop_unforged k w side (Oldest items n) = tt
+
+-- and both sides make of it what the one does by itself
+pub drop_called : (k : Mechanism) (s : Sides) (side : Side) (which : Which)
+    → called_on k s side (drop_call which) ≡ settled_on s side (act_on k (client_of s side) (dropping which))
+drop_called k s side (Oldest items n) = refl
+
+-- so the event is fair
 pub fair_event : (k : Mechanism) (w : World) (side : Side) (act : Act) → IsFairAct k w side act
     → IsFair k (world_for w act) (event_of side act)
 fair_event k w side (saying text draw) fair = record { unforged = tt; whole = tt }
 fair_event k w side (taking bytes) fair = record { unforged = fair; whole = tt }
-fair_event k w side act fair = record { unforged = tt; whole = tt }
+fair_event k w side (dropping which) fair = record { unforged = drop_unforged k w side which; whole = tt }
 
 pub lawful_act : (k : Mechanism) (w : World) (side : Side) (act : Act) → IsLawfulWorld k w → IsFairAct k w side act
     → IsLawfulWorld k (act_in k w side act).next
@@ -88,7 +99,11 @@ acted k w side (saying text draw) lawful fair =
     let s = sides_of k (with_draw w draw) in
     saying_kept k s side text draw (say_check (client_of s side) (length text))
     (same_need k w side (length text) draw lawful fair) (draw_given k w draw)
-acted k w side act lawful fair = settled_kept (sides_of k w) side (act_on k (client_of (sides_of k w) side) act)
+acted k w side (taking bytes) lawful fair =
+    settled_kept (sides_of k w) side (act_on k (client_of (sides_of k w) side) (taking bytes))
+acted k w side (dropping which) lawful fair =
+    let s = sides_of k w in
+    ap (kept_on side) (drop_called k s side which) ∙ settled_kept s side (act_on k (client_of s side) (dropping which))
 
 pub act_follows : (k : Mechanism) (w : World) (side : Side) (act : Act) → IsLawfulMechanism k → IsLawfulWorld k w
     → IsFairAct k w side act
@@ -109,7 +124,10 @@ act_follows k w side act law lawful fair =
 
 event_leaves : (k : Mechanism) (s : Sides) (side : Side) (act : Act) → Leaves side s (step_on k s (event_of side act))
 event_leaves k s side (saying text draw) = saying_leaves k s side text (say_check (client_of s side) (length text))
-event_leaves k s side act = settled_leaves s side (act_on k (client_of s side) act)
+event_leaves k s side (taking bytes) = settled_leaves s side (act_on k (client_of s side) (taking bytes))
+event_leaves k s side (dropping which) =
+    ap (λ (made : Step Sides). client_of made.next (peer_of side)) (drop_called k s side which)
+    ∙ settled_leaves s side (act_on k (client_of s side) (dropping which))
 
 pub act_leaves : (k : Mechanism) (w : World) (side : Side) (act : Act) → IsLawfulMechanism k → IsLawfulWorld k w
     → IsFairAct k w side act

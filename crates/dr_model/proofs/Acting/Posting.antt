@@ -8,7 +8,7 @@ use Rattle.kem_laws.specs.Mechanism.{IsLawfulMechanism, Mechanism}
 use Rattle.session_model.specs.Clients.{Client, SaidText, say_check, say_on}
 use Rattle.session_model.specs.declared.answer.Refusal.{Refusal}
 use Rattle.dr_model.specs.Conversations.Posts.{posts}
-use Rattle.dr_model.specs.Machines.Acts.{Act, act_on, needs_seed, saying}
+use Rattle.dr_model.specs.Machines.Acts.{Act, act_on, dropping, needs_seed, saying, taking}
 use Rattle.dr_model.specs.Machines.Draws.{after_draw, drawn, given_or, next_seed}
 use Rattle.dr_model.specs.Machines.Sides.{Sides, client_of, said_on, saying_on, settled_on, step_on, with_client}
 use Rattle.dr_model.specs.Machines.Steps.{Step}
@@ -17,7 +17,7 @@ use Rattle.dr_model.specs.Machines.WorldSides.{kept_in, sides_of}
 use Rattle.dr_model.specs.Machines.Worlds.{World}
 use Rattle.dr_model.specs.Theorems.Acting.{IsFairAct}
 use Rattle.dr_model.specs.Theorems.LawfulWorlds.{IsLawfulWorld}
-use Rattle.dr_model.proofs.Acting.ActsFollowing.{act_keeps, draw_given, fair_event, lawful_for, same_need}
+use Rattle.dr_model.proofs.Acting.ActsFollowing.{act_keeps, draw_given, drop_called, fair_event, lawful_for, same_need}
 use Rattle.dr_model.proofs.Worlds.Following.{step_follows}
 
 -- the packet of a text that was said, by what the side keeps
@@ -68,7 +68,12 @@ acted_grows k w side (saying text draw) lawful fair =
     let s = sides_of k (with_draw w draw) in
     saying_grows k s side text draw (say_check (client_of s side) (length text)) (same_need k w side (length text) draw lawful fair)
     (draw_given k w draw)
-acted_grows k w side act lawful fair = settled_grows (sides_of k w) side (act_on k (client_of (sides_of k w) side) act)
+acted_grows k w side (taking bytes) lawful fair =
+    settled_grows (sides_of k w) side (act_on k (client_of (sides_of k w) side) (taking bytes))
+acted_grows k w side (dropping which) lawful fair =
+    let s = sides_of k w in
+    ap (λ (made : Step Sides). made.next.posts) (drop_called k s side which)
+    ∙ settled_grows s side (act_on k (client_of s side) (dropping which))
 
 draw_leaves : (k : Mechanism) (w : World) (draw : Option (List ℕ)) → posts k (with_draw w draw).conversation ≡ posts k w.conversation
 draw_leaves k w None = refl

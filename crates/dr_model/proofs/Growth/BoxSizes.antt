@@ -1,6 +1,5 @@
 -- How many stand in the boxes of a view.
-use Rattle.std.proofs.Common.{◌≡◌, ℕ, ◌+◌, ◌-◌, ◌<◌, ◌≤◌, Bool, true, false, [], ◌∷◌, length, nat_le, refl, arith, if◌then◌else◌}
-use Rattle.std.proofs.lemmas.Bool.Decides.{nat_tests}
+use Rattle.std.proofs.Common.{◌≡◌, ℕ, ◌+◌, ◌-◌, ◌<◌, ◌≤◌, Bool, true, false, [], ◌∷◌, length, refl, arith, if◌then◌else◌}
 use Rattle.std.proofs.lemmas.List.{length-drop, length-map}
 use Rattle.kem_laws.specs.Mechanism.{Mechanism}
 use Rattle.dr_model.specs.Conversations.Conversation.{Conversation}
@@ -18,8 +17,8 @@ pub length-outbox_of : (k : Mechanism) (c : Conversation) (v : View)
 length-outbox_of k c v = length-drop v.dropped (posts_of k c v.side)
 
 -- no more leave a box than stand in it
-pub within : (n standing gone all : ℕ) → standing ≡ all - gone → gone ≤ all → nat_le n standing ≡ true → gone + n ≤ all
-within n standing gone all is le enough = grind (arith, nat_tests)
+pub within : (n standing gone all : ℕ) → standing ≡ all - gone → gone ≤ all → n ≤ standing → gone + n ≤ all
+within n standing gone all is le enough = omega arith
 
 -- a box within its limit stays so with one more, where it had room
 pub one_more_fits : {T : Type 0} (held more gone most : ℕ) (x : T) (new : Bool) → more ≡ held + length (if new then x ∷ [] else [])

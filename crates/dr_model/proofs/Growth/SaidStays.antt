@@ -8,18 +8,19 @@ use Rattle.dr_base.specs.declared.position.Position.{Position}
 use Rattle.dr_base.specs.declared.position.Side.{Side}
 use Rattle.dr_base.specs.declared.position.Side.TheVariants.{First, Second}
 use Rattle.kem_laws.specs.Mechanism.{Mechanism}
-use Rattle.session_model.specs.declared.answer.Answer.TheVariants.{Dropped, Opened}
-use Rattle.session_model.specs.declared.answer.Items.{Items}
+use Rattle.session_model.specs.Leaving.{drop_check}
+use Rattle.session_model.specs.declared.answer.Answer.TheVariants.{Opened}
 use Rattle.session_model.specs.declared.answer.Refusal.{Refusal}
-use Rattle.session_model.specs.declared.answer.Refusal.TheVariants.{NoPair, OwnPacket, Spent, SkipLimit, InboxFull, Fewer}
+use Rattle.session_model.specs.declared.answer.Refusal.TheVariants.{NoPair, OwnPacket, Spent, SkipLimit, InboxFull}
+use Rattle.session_model.specs.declared.answer.Which.{Which}
 use Rattle.dr_model.specs.Conversations.Conversation.{Conversation, is_said, with_text, with_turn}
 use Rattle.dr_model.specs.Conversations.Posts.{post_at}
 use Rattle.dr_model.specs.Conversations.Receipts.{body_in}
 use Rattle.dr_model.specs.Conversations.Views.{View, after_drop, has_opened, after_opening, missing_of, entry_at}
 use Rattle.dr_model.specs.Machines.Draws.{next_seed}
 use Rattle.dr_model.specs.Machines.Events.{Event, cuts, does, seeds, shows_awaiting, shows_inbox, shows_state}
-use Rattle.dr_model.specs.Machines.Steps.{Step, step, settled}
-use Rattle.dr_model.specs.Machines.Worlds.{World, said_here, view_of, with_view, dropping_in, inbox_in, may_say, said_next, saying_in, taking_in, taking_at, made_at, taking_made, taking_given, standing_in, step_of}
+use Rattle.dr_model.specs.Machines.Steps.{Step, leaving, step, settled}
+use Rattle.dr_model.specs.Machines.Worlds.{World, said_here, view_of, with_view, dropping_in, inbox_in, outbox_in, may_say, said_next, saying_in, taking_in, taking_at, made_at, taking_made, taking_given, step_of}
 use Rattle.dr_model.specs.Theorems.LawfulWorlds.{IsLawfulWorld}
 use Rattle.dr_model.proofs.Growth.Growing.{grown, is_said-grown, entry_at-grown, said-begun}
 use Rattle.dr_model.proofs.Growth.TurnGrowth.{SameTurns, post_at-grown, turns_same, turns_stay}
@@ -47,10 +48,10 @@ steps_leave w false false true d p q r s made h = refl
 steps_leave w false false false true p q r s made h = refl
 steps_leave w false false false false p q r s made h = h
 
-leave_leaves : (w : World) (enough : Bool) (refusal : Refusal) (made : Step World) → Leaves w made
-    → Leaves w (settled w (if enough then Ok made else Err refusal))
-leave_leaves w true refusal made h = h
-leave_leaves w false refusal made h = refl
+leave_leaves : (w : World) (which : Which) (check : Result Unit Refusal) (next : World)
+    → next.conversation ≡ w.conversation → Leaves w (settled w (leaving which check next))
+leave_leaves w which (Ok stand) next h = h
+leave_leaves w which (Err refusal) next h = refl
 
 -- packets are taken
 taking_leaves : (w : World) (side : Side) (p : Position) → Leaves w (settled w (taking_in w side p))
@@ -76,11 +77,10 @@ given_leaves k w side (Some bytes) = made_leaves k w side bytes (made_at k w byt
 given_leaves k w side None = refl
 
 -- items leave a box
-left_leaves : (k : Mechanism) (w : World) (side : Side) (items : Items) (n : ℕ) → Leaves w (settled w (dropping_in k w side items n))
-left_leaves k w side items n =
-    let after = after_drop (view_of w side) items n in
-    let standing = standing_in k w side items in
-    leave_leaves w (nat_le n standing) (Fewer standing) (step (Dropped items n) (with_view w side after))
+left_leaves : (k : Mechanism) (w : World) (side : Side) (which : Which) → Leaves w (settled w (dropping_in k w side which))
+left_leaves k w side which =
+    let after = after_drop w.conversation (view_of w side) which in
+    leave_leaves w which (drop_check which (inbox_in w side) (outbox_in k w side)) (with_view w side after)
     (with_view_leaves w side after)
 
 -- a text is said, or refused
@@ -123,7 +123,7 @@ step_keeps k w (does side call) P still here next =
           (λ seed. next side seed body);
       packet = λ at said. subst P (sym (at_leaves w side at)) still;
       bytes = λ given. subst P (sym (given_leaves k w side given)) still;
-      drop = λ items n. subst P (sym (left_leaves k w side items n)) still;
+      drop = λ which. subst P (sym (left_leaves k w side which)) still;
     }) call
 step_keeps k w (shows_inbox side) P still here next = still
 step_keeps k w (shows_state side) P still here next = still

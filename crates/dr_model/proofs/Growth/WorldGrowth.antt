@@ -11,17 +11,19 @@ use Rattle.dr_base.specs.declared.position.Side.TheVariants.{First, Second}
 use Rattle.kem_laws.specs.Mechanism.{Mechanism}
 use Rattle.session_model.specs.declared.answer.Answer.{Answer}
 use Rattle.session_model.specs.declared.answer.Answer.TheVariants.{Dropped, Opened, Nothing, Refused}
-use Rattle.session_model.specs.declared.answer.Items.{Items}
+use Rattle.session_model.specs.Leaving.{drop_check}
 use Rattle.session_model.specs.declared.answer.Items.TheVariants.{Packets, Texts}
 use Rattle.session_model.specs.declared.answer.Refusal.{Refusal}
-use Rattle.session_model.specs.declared.answer.Refusal.TheVariants.{NoPair, OwnPacket, Spent, SkipLimit, InboxFull, Fewer}
+use Rattle.session_model.specs.declared.answer.Refusal.TheVariants.{NoPair, OwnPacket, Spent, SkipLimit, InboxFull}
+use Rattle.session_model.specs.declared.answer.Which.{Which}
+use Rattle.session_model.specs.declared.answer.Which.TheVariants.{Oldest}
 use Rattle.dr_model.specs.Conversations.Conversation.{Conversation}
 use Rattle.dr_model.specs.Conversations.ViewStates.{state_of}
 use Rattle.dr_model.specs.Conversations.Views.{View, after_drop, has_opened, after_opening, missing_of}
 use Rattle.dr_model.specs.Machines.Draws.{Draws, next_seed, after_draw}
 use Rattle.dr_model.specs.Machines.Events.{Event, cuts, does, seeds, shows_awaiting, shows_inbox, shows_state}
-use Rattle.dr_model.specs.Machines.Steps.{Shown, Step, places, settled, step, texts}
-use Rattle.dr_model.specs.Machines.Worlds.{World, view_of, with_view, dropping_in, inbox_in, may_say, said_here, said_next, saying_in, taking_in, taking_at, made_at, refusal_of, taking_made, taking_given, standing_in, step_of}
+use Rattle.dr_model.specs.Machines.Steps.{Shown, Step, leaving, places, settled, step, texts}
+use Rattle.dr_model.specs.Machines.Worlds.{World, view_of, with_view, dropping_in, inbox_in, outbox_in, may_say, said_here, said_next, saying_in, taking_in, taking_at, made_at, refusal_of, taking_made, taking_given, step_of}
 use Rattle.dr_model.proofs.Saying.SayingFollows.{drawn_in}
 use Rattle.dr_model.proofs.Worlds.CallKinds.{of_call}
 use Rattle.dr_model.proofs.Worlds.CutSteps.{cut_off}
@@ -58,11 +60,11 @@ unless_sound : (w : World) (test : Bool) (refusal : Refusal) (r : Result (Step W
     → (test ≡ false → IsSettled w r) → IsSettled w (if test then Err refusal else r)
 unless_sound w test refusal r sound = cond_both test (Err refusal) r (IsSettled w) (λ _. err_sound w refusal) sound
 
--- a test that is asked for is sound, if what comes where it passes is
-enough_sound : (w : World) (test : Bool) (refusal : Refusal) (made : Step World) → IsSound w made
-    → IsSettled w (if test then Ok made else Err refusal)
-enough_sound w test refusal made sound =
-    cond_both test (Ok made) (Err refusal) (IsSettled w) (λ _. sound) (λ _. err_sound w refusal)
+-- what leaves leaves soundly, if the step does where the check allows it
+leaving_sound : (w : World) (which : Which) (check : Result Unit Refusal) (next : World)
+    → IsSound w (step (Dropped which) next) → IsSettled w (leaving which check next)
+leaving_sound w which (Ok stand) next sound = sound
+leaving_sound w which (Err refusal) next sound = err_sound w refusal
 
 -- ---- one side's view changes
 
@@ -75,16 +77,15 @@ with_view_gains w Second v First gains = same refl
 with_view_gains w Second v Second gains = gains
 
 -- items leave a box
-same_arrived : (v : View) (items : Items) (n : ℕ) → (after_drop v items n).arrived ≡ v.arrived
-same_arrived v Texts n = refl
-same_arrived v Packets n = refl
+same_arrived : (c : Conversation) (v : View) (which : Which) → (after_drop c v which).arrived ≡ v.arrived
+same_arrived c v (Oldest Texts n) = refl
+same_arrived c v (Oldest Packets n) = refl
 
-left_sound : (k : Mechanism) (w : World) (side : Side) (items : Items) (n : ℕ) → IsSettled w (dropping_in k w side items n)
-left_sound k w side items n =
-    let after = after_drop (view_of w side) items n in
-    let standing = standing_in k w side items in
-    enough_sound w (nat_le n standing) (Fewer standing) (step (Dropped items n) (with_view w side after)) (record {
-      gains = λ other. with_view_gains w side after other (same (same_arrived (view_of w side) items n));
+left_sound : (k : Mechanism) (w : World) (side : Side) (which : Which) → IsSettled w (dropping_in k w side which)
+left_sound k w side which =
+    let after = after_drop w.conversation (view_of w side) which in
+    leaving_sound w which (drop_check which (inbox_in w side) (outbox_in k w side)) (with_view w side after) (record {
+      gains = λ other. with_view_gains w side after other (same (same_arrived w.conversation (view_of w side) which));
       refused = λ refusal e. cc;
     })
 

@@ -1,5 +1,5 @@
 -- Each event of a world on both sides: they answer as the machine does, and keep what stands after it.
-use Rattle.std.proofs.Common.{◌≡◌, ℕ, ◌+◌, Bool, true, false, nat_le, List, length, map, Option, Some, None, Ok, Err, refl, sym, ◌∙◌, ap, ap₂, if◌then◌else◌}
+use Rattle.std.proofs.Common.{◌≡◌, ℕ, ◌+◌, true, List, length, map, Option, Some, None, Result, Ok, Err, refl, sym, ◌∙◌, ap, ap₂}
 use Rattle.std.specs.Prelude.{IfSome, option_map}
 use Rattle.std.proofs.lemmas.List.{drop-drop, drop-map, length-map}
 use Rattle.dr_model.specs.Conversations.Standing.{AreApart, done_first, standing}
@@ -11,22 +11,25 @@ use Rattle.dr_base.specs.declared.position.Side.{Side}
 use Rattle.dr_base.specs.declared.position.Side.TheVariants.{First, Second}
 use Rattle.kem_laws.specs.Mechanism.{Mechanism, IsLawfulMechanism}
 use Rattle.session_model.specs.Clients.{Client}
+use Rattle.session_model.specs.Leaving.{drop_check}
 use Rattle.session_model.specs.declared.answer.Amount.{Amount}
 use Rattle.session_model.specs.declared.answer.Answer.TheVariants.{Dropped, State as InNumbers}
 use Rattle.session_model.specs.declared.answer.Items.{Items}
 use Rattle.session_model.specs.declared.answer.Items.TheVariants.{Packets, Texts}
-use Rattle.session_model.specs.declared.answer.Refusal.TheVariants.{Fewer}
+use Rattle.session_model.specs.declared.answer.Refusal.{Refusal}
+use Rattle.session_model.specs.declared.answer.Which.{Which}
+use Rattle.session_model.specs.declared.answer.Which.TheVariants.{Oldest}
 use Rattle.dr_model.specs.Conversations.Conversation.{Conversation, is_said}
 use Rattle.dr_model.specs.Conversations.Posts.{post_at, posts, posts_of, key_of}
 use Rattle.dr_model.specs.Conversations.ViewStates.{client_at, state_of}
-use Rattle.dr_model.specs.Conversations.Views.{View, after_drop, entry_at, inbox_of, missing_of, outbox_of, standing_of}
-use Rattle.dr_model.specs.Machines.Acts.{dropped_client, standing_with}
+use Rattle.dr_model.specs.Conversations.Views.{View, after_drop, entry_at, inbox_of, missing_of, outbox_of}
+use Rattle.dr_model.specs.Machines.Acts.{act_on, dropped_client, dropping, standing_with}
 use Rattle.dr_model.specs.Machines.Events.{Event, PacketSource, SideCall, cuts, does, drops, of_bytes, of_flip, of_number, of_position, says, seeds, shows_awaiting, shows_inbox, shows_state, takes}
 use Rattle.dr_model.specs.Machines.Network.{flipped_at, packet_given}
-use Rattle.dr_model.specs.Machines.Sides.{Sides, called_on, settled_on, step_on, with_client}
+use Rattle.dr_model.specs.Machines.Sides.{Sides, called_on, client_of, settled_on, step_on, with_client}
 use Rattle.dr_model.specs.Machines.Steps.{Step, step, settled, amount_of, cut_step, leaving}
 use Rattle.dr_model.specs.Machines.WorldSides.{sides_of}
-use Rattle.dr_model.specs.Machines.Worlds.{World, called_in, inbox_in, nth_of_peer, outbox_in, said_at, step_of, taking_at, taking_given, taking_of, view_of, with_view}
+use Rattle.dr_model.specs.Machines.Worlds.{World, called_in, dropping_in, inbox_in, nth_of_peer, outbox_in, said_at, standing_in, step_of, taking_at, taking_given, taking_of, view_of, with_view}
 use Rattle.dr_model.specs.Theorems.Fairness.{IsFair, IsUnforged, IsUnforgedCall, IsUnforgedSource}
 use Rattle.dr_model.specs.Theorems.LawfulWorlds.{IsLawfulWorld}
 use Rattle.dr_model.proofs.Growth.SameViews.{missing_below-boxes}
@@ -61,19 +64,14 @@ state_of-boxes k c v done dropped =
     ap (λ missing. record (state_of k c v) { kept = map (key_of k c) missing })
     (missing_below-boxes c v done dropped v.awaiting (v.epoch + 1))
 
--- so many of a box leave it: as many stand, and what is left is kept
-same_standing : (k : Mechanism) (c : Conversation) (v : View) (items : Items)
-    → standing_with (client_at k c v) items ≡ standing_of k c v items
-same_standing k c v Texts = refl
-same_standing k c v Packets = refl
-
-same_dropped : (k : Mechanism) (c : Conversation) (v : View) (items : Items) (n : ℕ) → AreApart v.arrived
-    → dropped_client (client_at k c v) items n ≡ client_at k c (after_drop v items n)
-same_dropped k c v Texts n apart =
+-- items leave the boxes: what is left is kept
+same_dropped : (k : Mechanism) (c : Conversation) (v : View) (which : Which) → AreApart v.arrived
+    → dropped_client (client_at k c v) which ≡ client_at k c (after_drop c v which)
+same_dropped k c v (Oldest Texts n) apart =
     ap₂ (λ state inbox. let client : Client = record { state = state; inbox = inbox; outbox = outbox_of k c v } in client)
     (sym (state_of-boxes k c v (done_first v.arrived v.done n) v.dropped))
     (drop-map (entry_at c) n (standing v.arrived v.done) ∙ sym (ap (map (entry_at c)) (first_leave v.arrived v.done n apart)))
-same_dropped k c v Packets n apart =
+same_dropped k c v (Oldest Packets n) apart =
     ap₂ (λ state outbox. let client : Client = record { state = state; inbox = inbox_of c v; outbox = outbox } in client)
     (sym (state_of-boxes k c v v.done (v.dropped + n))) (drop-drop n v.dropped (posts_of k c v.side))
 
@@ -82,36 +80,34 @@ with_seen : (k : Mechanism) (w : World) (side : Side) (v : View)
 with_seen k w First v = refl
 with_seen k w Second v = refl
 
-left_follows : (k : Mechanism) (w : World) (side : Side) (items : Items) (n standing : ℕ) (after : View)
-    → settled_on (sides_of k w) side (leaving items n standing (client_at k w.conversation after))
-    ≡ seen_world k (settled w (leaving items n standing (with_view w side after)))
-left_follows k w side items n standing after = by_test (nat_le n standing)
-  where
-    by_test : (enough : Bool)
-        → settled_on (sides_of k w) side
-        (if enough then Ok (step (Dropped items n) (client_at k w.conversation after)) else Err (Fewer standing))
-        ≡ seen_world k (settled w
-        (if enough then Ok (step (Dropped items n) (with_view w side after)) else Err (Fewer standing)))
-    by_test true = ap (λ (next : Sides). step (Dropped items n) next) (with_seen k w side after)
-    by_test false = refl
+left_follows : (k : Mechanism) (w : World) (side : Side) (which : Which) (check : Result Unit Refusal) (after : View)
+    → settled_on (sides_of k w) side (leaving which check (client_at k w.conversation after))
+    ≡ seen_world k (settled w (leaving which check (with_view w side after)))
+left_follows k w side which (Ok stand) after = ap (λ (next : Sides). step (Dropped which) next) (with_seen k w side after)
+left_follows k w side which (Err refusal) after = refl
 
-drop_follows : (k : Mechanism) (w : World) (side : Side) (items : Items) (amount : Amount) → IsLawfulWorld k w
-    → called_on k (sides_of k w) side (drops items amount) ≡ seen_world k (called_in k w side (drops items amount))
-drop_follows k w side items amount lawful =
+drop_follows : (k : Mechanism) (w : World) (side : Side) (which : Which) → IsLawfulWorld k w
+    → settled_on (sides_of k w) side (act_on k (client_of (sides_of k w) side) (dropping which))
+    ≡ seen_world k (settled w (dropping_in k w side which))
+drop_follows k w side which lawful =
     let c = w.conversation in
     let v = view_of w side in
-    let n = amount_of amount (standing_of k c v items) in
+    let check = drop_check which (inbox_of c v) (outbox_of k c v) in
+    ap (λ (client : Client). settled_on (sides_of k w) side (act_on k client (dropping which))) (client_of-kept k w side)
+    ∙ ap (λ (next : Client). settled_on (sides_of k w) side (leaving which check next))
+    (same_dropped k c v which (apart_once v.arrived (view_lawful k w side lawful).once))
+    ∙ left_follows k w side which check (after_drop c v which)
+
+-- so many as an amount is
+amount_follows : (k : Mechanism) (w : World) (side : Side) (items : Items) (amount : Amount) → IsLawfulWorld k w
+    → called_on k (sides_of k w) side (drops items amount) ≡ seen_world k (called_in k w side (drops items amount))
+amount_follows k w side items amount lawful =
+    let s = sides_of k w in
     ap (λ (client : Client).
     let n = amount_of amount (standing_with client items) in
-    settled_on (sides_of k w) side (leaving items n (standing_with client items) (dropped_client client items n)))
+    settled_on s side (act_on k (client_of s side) (dropping (Oldest items n))))
     (client_of-kept k w side)
-    ∙ ap (λ standing.
-    let n = amount_of amount standing in
-    settled_on (sides_of k w) side (leaving items n standing (dropped_client (client_at k c v) items n)))
-    (same_standing k c v items)
-    ∙ ap (λ (next : Client). settled_on (sides_of k w) side (leaving items n (standing_of k c v items) next))
-    (same_dropped k c v items n (apart_once v.arrived (view_lawful k w side lawful).once))
-    ∙ left_follows k w side items n (standing_of k c v items) (after_drop v items n)
+    ∙ drop_follows k w side (Oldest items (amount_of amount (standing_in k w side items))) lawful
 
 -- each packet
 source_follows : (k : Mechanism) (w : World) (side : Side) (source : PacketSource) → IsLawfulMechanism k → IsLawfulWorld k w
@@ -134,7 +130,7 @@ called_follows : (k : Mechanism) (w : World) (side : Side) (call : SideCall) →
     → IsUnforgedCall k w side call → called_on k (sides_of k w) side call ≡ seen_world k (called_in k w side call)
 called_follows k w side (says text) law lawful unforged = says_follows k w side text law lawful
 called_follows k w side (takes source) law lawful unforged = source_follows k w side source law lawful unforged
-called_follows k w side (drops items amount) law lawful unforged = drop_follows k w side items amount lawful
+called_follows k w side (drops items amount) law lawful unforged = amount_follows k w side items amount lawful
 
 -- what a side holds, with this many missing
 abbrev in_numbers : Mechanism → World → Side → ℕ → Step Sides

@@ -1,15 +1,16 @@
 -- Worlds stay lawful, event by event.
-use Rattle.std.proofs.Common.{Bool, Err, List, None, Ok, Option, Some, [], ap, arith, false, if◌then◌else◌, length, nat_le, refl, true, ℕ, ◌+◌, ◌-◌, ◌∙◌, ◌∷◌, ◌≡◌, ◌≤◌}
+use Rattle.std.proofs.Common.{Err, List, None, Ok, Option, Result, Some, [], ap, arith, length, refl, true, ℕ, ◌+◌, ◌-◌, ◌∙◌, ◌∷◌, ◌≡◌, ◌≤◌}
 use Rattle.std.specs.Prelude.{All, IfSome}
 use Rattle.std.proofs.lemmas.List.Elements.{All-head, All-tail, All-weaker}
 use Rattle.dr_base.specs.declared.position.Position.{Position}
 use Rattle.dr_base.specs.declared.position.Side.{Side}
 use Rattle.kem_laws.specs.Mechanism.{Mechanism}
-use Rattle.session_model.specs.declared.answer.Answer.TheVariants.{Dropped}
-use Rattle.session_model.specs.declared.answer.Items.{Items}
 use Rattle.session_model.specs.declared.answer.Items.TheVariants.{Packets, Texts}
 use Rattle.session_model.specs.declared.answer.Refusal.{Refusal}
-use Rattle.session_model.specs.declared.answer.Refusal.TheVariants.{Fewer}
+use Rattle.session_model.specs.declared.answer.Which.{Which}
+use Rattle.session_model.specs.declared.answer.Which.TheVariants.{Oldest}
+use Rattle.session_model.specs.Leaving.{drop_check}
+use Rattle.session_model.proofs.Leaving.{enough_held}
 use Rattle.dr_model.specs.Conversations.Conversation.{Conversation, is_said, receipt_at}
 use Rattle.dr_model.specs.Conversations.Lawful.{HasArrived, IsLawfulView}
 use Rattle.std.proofs.lemmas.List.{length-drop}
@@ -17,10 +18,10 @@ use Rattle.dr_model.specs.Conversations.Posts.{posts_of}
 use Rattle.dr_model.specs.Conversations.Standing.{AreDone, done_first, standing}
 use Rattle.dr_model.proofs.Growth.Apart.{apart_once}
 use Rattle.dr_model.proofs.Growth.Standing.{first_done, first_leave}
-use Rattle.dr_model.specs.Conversations.Views.{View, after_drop, outbox_of, standing_of}
+use Rattle.dr_model.specs.Conversations.Views.{View, after_drop, inbox_of, outbox_of}
 use Rattle.dr_model.specs.Machines.Events.{Event, cuts, does, seeds, shows_awaiting, shows_inbox, shows_state}
-use Rattle.dr_model.specs.Machines.Steps.{Step, step, settled}
-use Rattle.dr_model.specs.Machines.Worlds.{World, dropping_in, made_at, run_of, standing_in, step_of, taking_at, taking_given, taking_made, view_of, with_view}
+use Rattle.dr_model.specs.Machines.Steps.{leaving, settled}
+use Rattle.dr_model.specs.Machines.Worlds.{World, dropping_in, made_at, run_of, step_of, taking_at, taking_given, taking_made, view_of, with_view}
 use Rattle.dr_model.specs.Theorems.Fairness.{IsSeedWhole}
 use Rattle.dr_model.specs.Theorems.LawfulWorlds.{IsLawfulWorld}
 use Rattle.dr_model.proofs.Growth.BoxSizes.{length-inbox_of, length-outbox_of, within}
@@ -76,35 +77,33 @@ lawful_boxes k c side v done dropped lawful fewer less d e =
       receipts = λ p said own. true_later c v after (receipt_at c p) (λ q opened. opened) (lawful.receipts p said own);
     }
 
-leave_lawful : (k : Mechanism) (w : World) (enough : Bool) (refusal : Refusal) (next : Step World) → IsLawfulWorld k w
-    → (enough ≡ true → IsLawfulWorld k next.next)
-    → IsLawfulWorld k (settled w (if enough then Ok next else Err refusal)).next
-leave_lawful k w true refusal next lawful h = h refl
-leave_lawful k w false refusal next lawful h = lawful
+leave_lawful : (k : Mechanism) (w : World) (which : Which) (check : Result Unit Refusal) (next : World) → IsLawfulWorld k w
+    → (check ≡ Ok tt → IsLawfulWorld k next) → IsLawfulWorld k (settled w (leaving which check next)).next
+leave_lawful k w which (Ok stand) next lawful h = h refl
+leave_lawful k w which (Err refusal) next lawful h = lawful
 
--- so many of a box leave it
-lawful_drop : (k : Mechanism) (c : Conversation) (side : Side) (v : View) (items : Items) (n : ℕ) → IsLawfulView k c side v
-    → nat_le n (standing_of k c v items) ≡ true → IsLawfulView k c side (after_drop v items n)
-lawful_drop k c side v Texts n lawful enough =
+-- items leave a box
+lawful_drop : (k : Mechanism) (c : Conversation) (side : Side) (v : View) (which : Which) → IsLawfulView k c side v
+    → drop_check which (inbox_of c v) (outbox_of k c v) ≡ Ok tt → IsLawfulView k c side (after_drop c v which)
+lawful_drop k c side v (Oldest Texts n) lawful stand =
     let apart = apart_once v.arrived lawful.once in
     lawful_boxes k c side v (done_first v.arrived v.done n) v.dropped lawful
     (omega (arith, ap length (first_leave v.arrived v.done n apart), length-drop n (standing v.arrived v.done))) (omega arith)
     (first_done v.arrived v.done n apart lawful.done) lawful.dropped_fits
-lawful_drop k c side v Packets n lawful enough =
+lawful_drop k c side v (Oldest Packets n) lawful stand =
     lawful_boxes k c side v v.done (v.dropped + n) lawful (omega arith) (omega arith) lawful.done
     (within n (length (outbox_of k c v)) v.dropped (length (posts_of k c side))
     (length-outbox_of k c v ∙ ap (λ s. length (posts_of k c s) - v.dropped) lawful.side_is)
-    lawful.dropped_fits enough)
+    lawful.dropped_fits (enough_held n (length (outbox_of k c v)) stand))
 
-lawful_left : (k : Mechanism) (w : World) (side : Side) (items : Items) (n : ℕ) → IsLawfulWorld k w
-    → IsLawfulWorld k (settled w (dropping_in k w side items n)).next
-lawful_left k w side items n lawful =
+lawful_left : (k : Mechanism) (w : World) (side : Side) (which : Which) → IsLawfulWorld k w
+    → IsLawfulWorld k (settled w (dropping_in k w side which)).next
+lawful_left k w side which lawful =
+    let c = w.conversation in
     let v = view_of w side in
-    let after = after_drop v items n in
-    let standing = standing_in k w side items in
-    leave_lawful k w (nat_le n standing) (Fewer standing) (step (Dropped items n) (with_view w side after)) lawful
-    (λ enough. with_lawful k w side after lawful
-    (lawful_drop k w.conversation side v items n (view_lawful k w side lawful) enough))
+    let after = after_drop c v which in
+    leave_lawful k w which (drop_check which (inbox_of c v) (outbox_of k c v)) (with_view w side after) lawful
+    (λ stand. with_lawful k w side after lawful (lawful_drop k c side v which (view_lawful k w side lawful) stand))
 
 -- any event
 pub lawful_next : (k : Mechanism) (w : World) (h : Event) → IsLawfulWorld k w → IsSeedWhole h
@@ -116,7 +115,7 @@ lawful_next k w (does side call) lawful whole =
       text = λ text. lawful_says k w side text lawful;
       packet = λ at said. lawful_at k w side at lawful said;
       bytes = λ given. lawful_given k w side given lawful;
-      drop = λ items n. lawful_left k w side items n lawful;
+      drop = λ which. lawful_left k w side which lawful;
     }) call
 lawful_next k w (shows_inbox side) lawful whole = lawful
 lawful_next k w (shows_state side) lawful whole = lawful

@@ -1,6 +1,6 @@
 -- How far a side has come in a conversation.
 use Rattle.std.specs.List.{list_any}
-use Rattle.std.specs.Prelude.{Bool, List, [], count_by, drop, filter, if◌then◌else◌, length, map, max, nat_le, suc, zero, ℕ, ◌++◌, ◌+◌, ◌==◌, ◌∷◌}
+use Rattle.std.specs.Prelude.{Bool, List, [], count_by, drop, filter, if◌then◌else◌, map, max, nat_le, suc, zero, ℕ, ◌++◌, ◌+◌, ◌==◌, ◌∷◌}
 use Rattle.boxes.specs.Entries.{Entry, entry_with}
 use Rattle.boxes.specs.Posts.{Post}
 use Rattle.dr_base.specs.Position.{is_at, is_own, position_at}
@@ -8,8 +8,11 @@ use Rattle.dr_base.specs.declared.position.Position.{Position}
 use Rattle.dr_base.specs.declared.position.Side.{Side}
 use Rattle.kem_laws.specs.Mechanism.{Mechanism}
 use Rattle.session_model.specs.Awaiting.{still_waiting, waiting_with}
+use Rattle.session_model.specs.Leaving.{held_in}
 use Rattle.session_model.specs.declared.answer.Items.{Items}
 use Rattle.session_model.specs.declared.answer.Items.TheVariants.{Packets, Texts}
+use Rattle.session_model.specs.declared.answer.Which.{Which}
+use Rattle.session_model.specs.declared.answer.Which.TheVariants.{Oldest}
 use Rattle.dr_model.specs.Conversations.Conversation.{Conversation, count_of, kind_at, receipt_at, text_at}
 use Rattle.dr_model.specs.Conversations.Indices.{missing_to, reach}
 use Rattle.dr_model.specs.Conversations.Posts.{posts_of}
@@ -98,10 +101,9 @@ outbox_of k c v = drop v.dropped (posts_of k c v.side)
 
 -- how many of these items stand in their box
 abbrev pub standing_of : Mechanism → Conversation → View → Items → ℕ
-standing_of k c v Texts = length (inbox_of c v)
-standing_of k c v Packets = length (outbox_of k c v)
+standing_of k c v items = held_in (inbox_of c v) (outbox_of k c v) items
 
--- the view once so many of the oldest have left it
-abbrev pub after_drop : View → Items → ℕ → View
-after_drop v Texts n = record v { done = done_first v.arrived v.done n }
-after_drop v Packets n = record v { dropped = v.dropped + n }
+-- the view once items have left its boxes
+abbrev pub after_drop : Conversation → View → Which → View
+after_drop c v (Oldest Texts n) = record v { done = done_first v.arrived v.done n }
+after_drop c v (Oldest Packets n) = record v { dropped = v.dropped + n }

@@ -1,11 +1,12 @@
 -- What one side does by itself, apart from the network, on what it keeps.
-use Rattle.std.specs.Prelude.{Bool, Err, List, Ok, Option, Result, [], drop, false, length, ℕ}
+use Rattle.std.specs.Prelude.{Bool, Err, List, Ok, Option, Result, [], false, length, ℕ}
 use Rattle.kem_laws.specs.Mechanism.{Mechanism}
 use Rattle.session_model.specs.Clients.{Client, SaidText, TakenPacket, say_check, say_on, take_on}
+use Rattle.session_model.specs.Leaving.{drop_check, held_in, left_in_inbox, left_in_outbox}
 use Rattle.session_model.specs.declared.answer.Answer.TheVariants.{Opened, Said}
 use Rattle.session_model.specs.declared.answer.Items.{Items}
-use Rattle.session_model.specs.declared.answer.Items.TheVariants.{Packets, Texts}
 use Rattle.session_model.specs.declared.answer.Refusal.{Refusal}
+use Rattle.session_model.specs.declared.answer.Which.{Which}
 use Rattle.dr_model.specs.Machines.Draws.{given_or}
 use Rattle.dr_model.specs.Machines.Steps.{Step, leaving, step}
 
@@ -14,20 +15,21 @@ pub data Act : Type 0 where
   saying : (text : List ℕ) → (draw : Option (List ℕ)) → Act
   -- it takes bytes
   taking : (bytes : List ℕ) → Act
-  -- this many of the oldest items leave their box
-  dropping : (items : Items) → (amount : ℕ) → Act
+  -- items leave their box
+  dropping : (which : Which) → Act
 
 -- ---- a client's boxes
 
 -- how many of these items stand in their box
 abbrev pub standing_with : Client → Items → ℕ
-standing_with client Texts = length client.inbox
-standing_with client Packets = length client.outbox
+standing_with client items = held_in client.inbox client.outbox items
 
--- what is kept once so many of the oldest have left it
-abbrev pub dropped_client : Client → Items → ℕ → Client
-dropped_client client Texts n = record client { inbox = drop n client.inbox }
-dropped_client client Packets n = record client { outbox = drop n client.outbox }
+-- what is kept once items have left them
+abbrev pub dropped_client : Client → Which → Client
+dropped_client client which = record client {
+  inbox = left_in_inbox which client.inbox;
+  outbox = left_in_outbox which client.outbox;
+}
 
 -- ---- a step, or a refusal, which changes nothing
 
@@ -46,8 +48,8 @@ taken_by (Err refusal) = Err refusal
 abbrev pub act_on : Mechanism → Client → Act → Result (Step Client) Refusal
 act_on k client (saying text draw) = saying_by k client text draw (say_check client (length text))
 act_on k client (taking bytes) = taken_by (take_on k client bytes)
-act_on k client (dropping items n) =
-    leaving items n (standing_with client items) (dropped_client client items n)
+act_on k client (dropping which) =
+    leaving which (drop_check which client.inbox client.outbox) (dropped_client client which)
 
 -- whether a text that was checked needs a seed
 abbrev pub needs_seed : Result Bool Refusal → Bool

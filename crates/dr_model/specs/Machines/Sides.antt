@@ -7,6 +7,7 @@ use Rattle.kem_laws.specs.Mechanism.{Mechanism}
 use Rattle.session_model.specs.Clients.{Client, SaidText, say_check, say_on, summary_of}
 use Rattle.session_model.specs.declared.answer.Answer.TheVariants.{Awaiting, Inbox, Said, Seeded, State as InNumbers}
 use Rattle.session_model.specs.declared.answer.Refusal.{Refusal}
+use Rattle.session_model.specs.declared.answer.Which.TheVariants.{Oldest}
 use Rattle.dr_model.specs.Machines.Acts.{Act, act_on, dropping, saying, standing_with, taking}
 use Rattle.dr_model.specs.Machines.Draws.{Draws, after_draw, next_seed}
 use Rattle.dr_model.specs.Machines.Events.{Event, SideCall, cuts, does, drops, says, seeds, shows_awaiting, shows_inbox, shows_state, takes}
@@ -64,7 +65,7 @@ act_of s side (says text) =
     Some (saying text (draw_for s (say_check (client_of s side) (length text))))
 act_of s side (takes source) = option_map taking (packet_given s.posts side source)
 act_of s side (drops items amount) =
-    Some (dropping items (amount_of amount (standing_with (client_of s side) items)))
+    Some (dropping (Oldest items (amount_of amount (standing_with (client_of s side) items))))
 
 -- what both sides make of a call of one: the network gets the packet of a text
 abbrev pub called_on : Mechanism → Sides → Side → SideCall → Step Sides

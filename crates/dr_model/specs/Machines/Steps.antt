@@ -1,14 +1,14 @@
 -- What comes of an event.
-use Rattle.std.specs.Prelude.{Bool, Err, List, Ok, Result, [], false, if◌then◌else◌, nat_le, nat_lt, true, ℕ}
+use Rattle.std.specs.Prelude.{Bool, Err, List, Ok, Result, [], false, if◌then◌else◌, true, ℕ}
 use Rattle.boxes.specs.Entries.{Entry}
 use Rattle.dr_base.specs.declared.position.Position.{Position}
+use Rattle.session_model.specs.Leaving.{drops_any}
 use Rattle.session_model.specs.declared.answer.Amount.{Amount}
 use Rattle.session_model.specs.declared.answer.Amount.TheVariants.{All, Exactly}
 use Rattle.session_model.specs.declared.answer.Answer.{Answer}
 use Rattle.session_model.specs.declared.answer.Answer.TheVariants.{Dropped, Nothing, Opened, Refused, Said, Stopped}
-use Rattle.session_model.specs.declared.answer.Items.{Items}
 use Rattle.session_model.specs.declared.answer.Refusal.{Refusal}
-use Rattle.session_model.specs.declared.answer.Refusal.TheVariants.{Fewer}
+use Rattle.session_model.specs.declared.answer.Which.{Which}
 
 -- what an event shows: texts, or only where texts stand
 pub data Shown : Type 0 where
@@ -30,10 +30,10 @@ abbrev pub settled : {S : Type 0} → S → Result (Step S) Refusal → Step S
 settled s (Ok made) = made
 settled s (Err refusal) = step (Refused refusal) s
 
--- the oldest items leave a box, if so many stand in it: with what stands then
-abbrev pub leaving : {S : Type 0} → Items → (n standing : ℕ) → S → Result (Step S) Refusal
-leaving items n standing next =
-    if nat_le n standing then Ok (step (Dropped items n) next) else Err (Fewer standing)
+-- items leave their box, if the check allows it: with what stands then
+abbrev pub leaving : {S : Type 0} → Which → Result Unit Refusal → S → Result (Step S) Refusal
+leaving which (Ok stand) next = Ok (step (Dropped which) next)
+leaving which (Err refusal) next = Err refusal
 
 -- the network holds no such packet
 abbrev pub nothing : {S : Type 0} → S → Step S
@@ -48,7 +48,7 @@ amount_of (Exactly n) standing = n
 abbrev pub has_effect : Answer → Bool
 has_effect (Said position) = true
 has_effect (Opened position) = true
-has_effect (Dropped items n) = nat_lt 0 n
+has_effect (Dropped which) = drops_any which
 has_effect _ = false
 
 -- a step that was cut off: with its effect, or as `before`; a step without an effect is never cut off

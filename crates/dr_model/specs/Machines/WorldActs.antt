@@ -4,17 +4,23 @@ use Rattle.dr_base.specs.declared.position.Side.{Side}
 use Rattle.kem_laws.specs.Mechanism.{Mechanism}
 use Rattle.session_model.specs.Clients.{Client}
 use Rattle.session_model.specs.declared.answer.Amount.TheVariants.{Exactly}
+use Rattle.session_model.specs.declared.answer.Which.{Which}
+use Rattle.session_model.specs.declared.answer.Which.TheVariants.{Oldest}
 use Rattle.dr_model.specs.Machines.Acts.{Act, dropping, saying, taking}
 use Rattle.dr_model.specs.Machines.Events.{Event, SideCall, does, drops, of_bytes, says, takes}
 use Rattle.dr_model.specs.Machines.Steps.{Step}
 use Rattle.dr_model.specs.Machines.WorldSides.{kept_in}
 use Rattle.dr_model.specs.Machines.Worlds.{World, step_of}
 
+-- the call by which items leave
+abbrev pub drop_call : Which → SideCall
+drop_call (Oldest items n) = drops items (Exactly n)
+
 -- the call that it is
 abbrev pub call_for : Act → SideCall
 call_for (saying text draw) = says text
 call_for (taking bytes) = takes (of_bytes bytes)
-call_for (dropping items n) = drops items (Exactly n)
+call_for (dropping which) = drop_call which
 
 -- and the event
 abbrev pub event_of : Side → Act → Event

@@ -15,10 +15,13 @@ use Rattle.packet.specs.Reading.{read_packet}
 use Rattle.packet.specs.declared.fault.Malformed.{Malformed}
 use Rattle.session_model.specs.States.{State}
 use Rattle.session_model.specs.Ways.{Way, way_of}
+use Rattle.session_model.specs.Leaving.{drop_check}
 use Rattle.session_model.specs.declared.answer.Answer.TheVariants.{Awaiting, Inbox, Opened, Said, Seeded, State as InNumbers}
 use Rattle.session_model.specs.declared.answer.Items.{Items}
 use Rattle.session_model.specs.declared.answer.Refusal.{Refusal}
 use Rattle.session_model.specs.declared.answer.Refusal.TheVariants.{BadTag, EpochFull, InboxFull, LastEpoch, Malformed as Unreadable, NoPair, OutboxFull, OwnPacket, SkipLimit, Spent, TextTooLong}
+use Rattle.session_model.specs.declared.answer.Which.{Which}
+use Rattle.session_model.specs.declared.answer.Which.TheVariants.{Oldest}
 use Rattle.dr_model.specs.Conversations.Formats.{Formats}
 use Rattle.dr_model.specs.Conversations.Conversation.{Conversation, count_of, is_said, next_position, opening_conversation, positions, with_text, with_turn}
 use Rattle.dr_model.specs.Conversations.Posts.{posts}
@@ -162,18 +165,18 @@ taking_of k w side (of_bytes bytes) = taking_given k w side (Some bytes)
 abbrev pub standing_in : Mechanism → World → Side → Items → ℕ
 standing_in k w side items = standing_of k w.conversation (view_of w side) items
 
--- so many of the oldest leave it
-abbrev pub dropping_in : Mechanism → World → Side → Items → ℕ → Result (Step World) Refusal
-dropping_in k w side items n =
-    leaving items n (standing_in k w side items)
-    (with_view w side (after_drop (view_of w side) items n))
+-- items leave a box of a side
+abbrev pub dropping_in : Mechanism → World → Side → Which → Result (Step World) Refusal
+dropping_in k w side which =
+    leaving which (drop_check which (inbox_in w side) (outbox_in k w side))
+    (with_view w side (after_drop w.conversation (view_of w side) which))
 
 -- what becomes of a call of a side
 abbrev pub called_in : Mechanism → World → Side → SideCall → Step World
 called_in k w side (says text) = saying_in k w side text (may_say k w side (length text))
 called_in k w side (takes source) = taking_of k w side source
 called_in k w side (drops items amount) =
-    settled w (dropping_in k w side items (amount_of amount (standing_in k w side items)))
+    settled w (dropping_in k w side (Oldest items (amount_of amount (standing_in k w side items))))
 
 -- what becomes of what happens
 abbrev pub step_of : Mechanism → World → Event → Step World

@@ -7,14 +7,14 @@ use Rattle.client.proofs.dropping.drop_items.Goals as goal
 
 pub returns-clause-in_worlds : goal.returns-clause-in_worlds
 returns-clause-in_worlds g c = λ w side is.
-    lift g.Q.Keeper.keeping g.K.Kem.mechanism c.grounds.ensures w side (dropping c.args.items c.args.n) c.args.keeper.now c.drop_exact.new.keeper is
+    lift g.Q.Keeper.keeping g.K.Kem.mechanism c.grounds.ensures w side (dropping c.args.which) c.args.keeper.now c.drop_exact.new.keeper is
     g.D.Disk.state c.holds.ensures c.args.disk.now c.drop_exact.new.disk c.requires (λ _. tt)
-    (dropped_as (Dropped c.args.items c.args.n) c.drop_exact.result) c.drop_exact.ensures.exact
+    (dropped_as (Dropped c.args.which) c.drop_exact.result) c.drop_exact.ensures.exact
 
 pub returns-clause-ready : goal.returns-clause-ready
 returns-clause-ready g c =
-    dropped_ready g.Q.Keeper.keeping g.D.Disk.state (act_on g.K.Kem.mechanism (g.Q.Keeper.keeping.kept c.args.keeper.now) (dropping c.args.items c.args.n)) c.args.keeper.now
-    c.drop_exact.new.keeper c.args.disk.now c.drop_exact.new.disk c.requires (Dropped c.args.items c.args.n) c.drop_exact.result
+    dropped_ready g.Q.Keeper.keeping g.D.Disk.state (act_on g.K.Kem.mechanism (g.Q.Keeper.keeping.kept c.args.keeper.now) (dropping c.args.which)) c.args.keeper.now
+    c.drop_exact.new.keeper c.args.disk.now c.drop_exact.new.disk c.requires (Dropped c.args.which) c.drop_exact.result
     c.drop_exact.ensures.exact
 
 pub returns-clause-exact : goal.returns-clause-exact

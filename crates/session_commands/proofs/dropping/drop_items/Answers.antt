@@ -7,7 +7,7 @@ use Rattle.session_commands.proofs.dropping.drop_items.Goals as goal
 
 pub returns : goal.returns
 returns g c =
-    act_counts g.D.Disk.state g.K.Kem.mechanism (asked_drop (dropping c.args.items c.args.n)) c.args.disk.now c.open_and_drop-worked.new.disk
+    act_counts g.D.Disk.state g.K.Kem.mechanism (asked_drop (dropping c.args.which)) c.args.disk.now c.open_and_drop-worked.new.disk
     (IsQuiet (g.D.Disk.state c.args.disk.now) (g.D.Disk.state c.open_and_drop-worked.new.disk))
     (λ kept act asks quiet. quiet) (g.O.Sink.at c.args.out.now) (g.O.Sink.at c.close.new.out) c.close.result.code
     (record {

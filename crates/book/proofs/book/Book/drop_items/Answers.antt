@@ -9,7 +9,7 @@ use Rattle.book.specs.Naming.{IsPlaceOf}
 use Rattle.book.specs.RowKeepings.{RowNow, row_keeping}
 use Rattle.book.proofs.Called.{of_book, stays_at}
 use Rattle.book.proofs.Stepped.{act_step}
-use Rattle.book.proofs.book.Book.drop_oldest.Goals as goal
+use Rattle.book.proofs.book.Book.drop_items.Goals as goal
 
 pub returns-in-Ok-clause-answers : goal.returns-in-Ok-clause-answers
 returns-in-Ok-clause-answers g c =
@@ -24,10 +24,10 @@ returns-in-Ok-clause-answers g c =
       (
         at,
         place,
-        of_book (λ (a b : RowNow). RowDrops g.D.Disk.state g.K.Kem.mechanism (dropping c.args.items c.args.n) (dropped_as (Dropped c.args.items c.args.n)) a b
+        of_book (λ (a b : RowNow). RowDrops g.D.Disk.state g.K.Kem.mechanism (dropping c.args.which) (dropped_as (Dropped c.args.which)) a b
             c.args.disk.now c.drop_items.new.disk (Ok tt)) old at was is same
-            (stays_at g.D.Disk.state (act_on g.K.Kem.mechanism (row_keeping.kept was) (dropping c.args.items c.args.n)) was is c.args.disk.now
-            c.drop_items.new.disk (dropped_as (Dropped c.args.items c.args.n) (Ok tt)) c.in-Ok.ensures.exact)
+            (stays_at g.D.Disk.state (act_on g.K.Kem.mechanism (row_keeping.kept was) (dropping c.args.which)) was is c.args.disk.now
+            c.drop_items.new.disk (dropped_as (Dropped c.args.which) (Ok tt)) c.in-Ok.ensures.exact)
             (record { exact = c.in-Ok.ensures.exact; ready = c.in-Ok.ensures.ready; in_worlds = c.in-Ok.ensures.in_worlds; fate = c.in-Ok.ensures.fate }),
       ),
     )
@@ -42,12 +42,12 @@ returns-in-Ok-clause-steps g c =
     let place = subst (λ (b : BookNow). IsPlaceOf c.args.name.now b.rows at) c.self.view_is c.in-Some-place.ensures in
     let same = c.use_row.ensures ∙ ap (λ (b : BookNow). row_in b at) c.self.view_is in
     let k = g.K.Kem.mechanism in
-    act_step k c.args.name.now (dropping c.args.items c.args.n) old is.book at place (g.D.Disk.state c.args.disk.now) (c.requires is_open)
-    g.D.Disk.state c.args.disk.now c.drop_items.new.disk (dropped_as (Dropped c.args.items c.args.n) (Ok tt)) is_open
-    (of_book (λ (a b : RowNow). KeeperActs row_keeping g.D.Disk.state (act_on k (row_keeping.kept a) (dropping c.args.items c.args.n)) a b
-    c.args.disk.now c.drop_items.new.disk (dropped_as (Dropped c.args.items c.args.n) (Ok tt))) old at was is same
-    (stays_at g.D.Disk.state (act_on g.K.Kem.mechanism (row_keeping.kept was) (dropping c.args.items c.args.n)) was is c.args.disk.now
-    c.drop_items.new.disk (dropped_as (Dropped c.args.items c.args.n) (Ok tt)) c.in-Ok.ensures.exact)
+    act_step k c.args.name.now (dropping c.args.which) old is.book at place (g.D.Disk.state c.args.disk.now) (c.requires is_open)
+    g.D.Disk.state c.args.disk.now c.drop_items.new.disk (dropped_as (Dropped c.args.which) (Ok tt)) is_open
+    (of_book (λ (a b : RowNow). KeeperActs row_keeping g.D.Disk.state (act_on k (row_keeping.kept a) (dropping c.args.which)) a b
+    c.args.disk.now c.drop_items.new.disk (dropped_as (Dropped c.args.which) (Ok tt))) old at was is same
+    (stays_at g.D.Disk.state (act_on g.K.Kem.mechanism (row_keeping.kept was) (dropping c.args.which)) was is c.args.disk.now
+    c.drop_items.new.disk (dropped_as (Dropped c.args.which) (Ok tt)) c.in-Ok.ensures.exact)
     c.in-Ok.ensures.exact)
 
 pub returns-in-Err-clause-answers : goal.returns-in-Err-clause-answers
@@ -63,10 +63,10 @@ returns-in-Err-clause-answers g c =
       (
         at,
         place,
-        of_book (λ (a b : RowNow). RowDrops g.D.Disk.state g.K.Kem.mechanism (dropping c.args.items c.args.n) (dropped_as (Dropped c.args.items c.args.n)) a b
+        of_book (λ (a b : RowNow). RowDrops g.D.Disk.state g.K.Kem.mechanism (dropping c.args.which) (dropped_as (Dropped c.args.which)) a b
             c.args.disk.now c.drop_items.new.disk (Err c.in-Err.refusal)) old at was is same
-            (stays_at g.D.Disk.state (act_on g.K.Kem.mechanism (row_keeping.kept was) (dropping c.args.items c.args.n)) was is c.args.disk.now
-            c.drop_items.new.disk (dropped_as (Dropped c.args.items c.args.n) (Err c.in-Err.refusal)) c.in-Err.ensures.exact)
+            (stays_at g.D.Disk.state (act_on g.K.Kem.mechanism (row_keeping.kept was) (dropping c.args.which)) was is c.args.disk.now
+            c.drop_items.new.disk (dropped_as (Dropped c.args.which) (Err c.in-Err.refusal)) c.in-Err.ensures.exact)
             (record { exact = c.in-Err.ensures.exact; ready = c.in-Err.ensures.ready; in_worlds = c.in-Err.ensures.in_worlds; fate = c.in-Err.ensures.fate }),
       ),
     )
@@ -81,10 +81,10 @@ returns-in-Err-clause-steps g c =
     let place = subst (λ (b : BookNow). IsPlaceOf c.args.name.now b.rows at) c.self.view_is c.in-Some-place.ensures in
     let same = c.use_row.ensures ∙ ap (λ (b : BookNow). row_in b at) c.self.view_is in
     let k = g.K.Kem.mechanism in
-    act_step k c.args.name.now (dropping c.args.items c.args.n) old is.book at place (g.D.Disk.state c.args.disk.now) (c.requires is_open)
-    g.D.Disk.state c.args.disk.now c.drop_items.new.disk (dropped_as (Dropped c.args.items c.args.n) (Err c.in-Err.refusal)) is_open
-    (of_book (λ (a b : RowNow). KeeperActs row_keeping g.D.Disk.state (act_on k (row_keeping.kept a) (dropping c.args.items c.args.n)) a b
-    c.args.disk.now c.drop_items.new.disk (dropped_as (Dropped c.args.items c.args.n) (Err c.in-Err.refusal))) old at was is same
-    (stays_at g.D.Disk.state (act_on g.K.Kem.mechanism (row_keeping.kept was) (dropping c.args.items c.args.n)) was is c.args.disk.now
-    c.drop_items.new.disk (dropped_as (Dropped c.args.items c.args.n) (Err c.in-Err.refusal)) c.in-Err.ensures.exact)
+    act_step k c.args.name.now (dropping c.args.which) old is.book at place (g.D.Disk.state c.args.disk.now) (c.requires is_open)
+    g.D.Disk.state c.args.disk.now c.drop_items.new.disk (dropped_as (Dropped c.args.which) (Err c.in-Err.refusal)) is_open
+    (of_book (λ (a b : RowNow). KeeperActs row_keeping g.D.Disk.state (act_on k (row_keeping.kept a) (dropping c.args.which)) a b
+    c.args.disk.now c.drop_items.new.disk (dropped_as (Dropped c.args.which) (Err c.in-Err.refusal))) old at was is same
+    (stays_at g.D.Disk.state (act_on g.K.Kem.mechanism (row_keeping.kept was) (dropping c.args.which)) was is c.args.disk.now
+    c.drop_items.new.disk (dropped_as (Dropped c.args.which) (Err c.in-Err.refusal)) c.in-Err.ensures.exact)
     c.in-Err.ensures.exact)

@@ -1,0 +1,44 @@
+-- What is left of boxes once items leave them, and what stood in them.
+use Rattle.std.proofs.Common.{Bool, Err, List, Ok, Result, arith, false, length, refl, true, ℕ, ◌≡◌, ◌≤◌}
+use Rattle.std.specs.Prelude.{All, if◌then◌else◌, nat_le}
+use Rattle.std.proofs.lemmas.Bool.{leb-true}
+use Rattle.std.proofs.lemmas.List.{length-drop}
+use Rattle.std.proofs.lemmas.List.Elements.{All-drop}
+use Rattle.boxes.specs.Entries.{Entry}
+use Rattle.boxes.specs.Posts.{Post}
+use Rattle.session_model.specs.Leaving.{enough, left_in_inbox, left_in_outbox}
+use Rattle.session_model.specs.declared.answer.Items.TheVariants.{Packets, Texts}
+use Rattle.session_model.specs.declared.answer.Refusal.{Refusal}
+use Rattle.session_model.specs.declared.answer.Refusal.TheVariants.{Fewer}
+use Rattle.session_model.specs.declared.answer.Which.{Which}
+use Rattle.session_model.specs.declared.answer.Which.TheVariants.{Oldest}
+
+-- so many stand, where the check allows it
+abbrev enough_by : Bool → ℕ → Result Unit Refusal
+enough_by b held = if b then Ok tt else Err (Fewer held)
+
+passed : (b : Bool) (held : ℕ) → enough_by b held ≡ Ok tt → b ≡ true
+passed true held is = refl
+passed false held is = absurd (cc is)
+
+pub enough_held : (n held : ℕ) → enough n held ≡ Ok tt → n ≤ held
+enough_held n held is = leb-true n held (passed (nat_le n held) held is)
+
+-- no more are left than stood
+pub fewer_texts : (which : Which) (inbox : List Entry) → length (left_in_inbox which inbox) ≤ length inbox
+fewer_texts (Oldest Texts n) inbox = omega (arith, length-drop n inbox)
+fewer_texts (Oldest Packets n) inbox = omega arith
+
+pub fewer_packets : (which : Which) (outbox : List Post) → length (left_in_outbox which outbox) ≤ length outbox
+fewer_packets (Oldest Texts n) outbox = omega arith
+fewer_packets (Oldest Packets n) outbox = omega (arith, length-drop n outbox)
+
+-- what held of each holds of each that is left
+pub all_texts : (P : Entry → Type 0) (which : Which) (inbox : List Entry) → All P inbox → All P (left_in_inbox which inbox)
+all_texts P (Oldest Texts n) inbox all = All-drop P n inbox all
+all_texts P (Oldest Packets n) inbox all = all
+
+pub all_packets : (P : Post → Type 0) (which : Which) (outbox : List Post) → All P outbox
+    → All P (left_in_outbox which outbox)
+all_packets P (Oldest Texts n) outbox all = all
+all_packets P (Oldest Packets n) outbox all = All-drop P n outbox all
