@@ -17,4 +17,5 @@ mod RowPlans
 mod Planning
 mod RowRecords
 pub mod Books
+pub mod Sayings
 pub mod Openings

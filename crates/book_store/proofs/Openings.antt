@@ -1,10 +1,7 @@
-pub mod LaidRows
-pub mod LaidTables
 pub mod Likes
 pub mod TablesRead
 pub mod PageMarks
 pub mod RowMarks
-pub mod HeldMarks
 pub mod BesideShot
 pub mod NothingOpen
 pub mod StoreShot
@@ -20,5 +17,6 @@ pub mod BookRead
 pub mod Causes
 pub mod SameRest
 pub mod OpenedStore
+pub mod Refusals
 pub mod Answered
 pub mod EmptyHeld

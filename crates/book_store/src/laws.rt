@@ -8,13 +8,16 @@ ghost use Rattle.book_store.specs.AtRest.{BookMark, IsBookAtRest, IsBookMarked};
 ghost use Rattle.book_store.specs.Committing.{HasRows, IsBookStopped, IsOldOrNewBook, KeepsRows};
 ghost use Rattle.book_store.specs.Judging.{book_fault};
 ghost use Rattle.book_store.specs.Marks.{AreMarks, IsLaidTable, RowMark, book_body};
-ghost use Rattle.book_store.specs.Layout.{book_end};
+ghost use Rattle.book_store.specs.Layout.{HasBook, book_end};
 ghost use Rattle.book_store.specs.Shown.{BookRow};
-ghost use Rattle.book_store.specs.Staging.{Rests};
+ghost use Rattle.book_store.specs.Opened.{IsBookOpened};
+ghost use Rattle.book_store.specs.Staging.{IsStagedOver, MayStage, Rests};
 ghost use Rattle.book_store.specs.Store.{empty_store};
 ghost use Rattle.book_store.specs.declared.layout.TheConstants.{BOOK_ROWS, BOOK_TABLE};
 
+use crate::store::BookStore;
 use dr_disk::Disk;
+use paged_records::Grammar;
 
 /// Rows are staged from one moment to another, and more of them from then on: all that time each
 /// crash leaves the rows that stand.
@@ -73,3 +76,19 @@ pub fn zeros_are_at_rest()
     ensures marked { (rows : ℕ) → rows ≤ BOOK_ROWS
         → IsBookMarked rows (empty_store rows).mark (empty_store rows).held }
 {}
+
+/// Over a store that was just opened rows may be staged.
+pub fn opened_books_may_stage<G: Grammar, D: Disk>(
+    store: &BookStore,
+    rows: u32,
+    start: &D,
+    disk: &D,
+)
+    requires within { HasBook rows (D.state disk.now) }
+    requires opened { IsBookOpened G.fault_at rows
+        (D.state start.now) (D.state disk.now) store.now }
+    ensures over { IsStagedOver store.now store.now.held (D.state disk.now) }
+    ensures may { MayStage store.now (D.state disk.now) }
+{
+    store.may_stage(disk);
+}

@@ -6,8 +6,8 @@ pub use desk::Desk;
 pub use errors::{BookOpenError, StoreFault};
 pub use judging::book_fault;
 pub use laws::{
-    all_or_none, faultless_tables_are_laid, laid_tables_are_faultless, resting_books,
-    stay_as_they_were, zeros_are_at_rest,
+    all_or_none, faultless_tables_are_laid, laid_tables_are_faultless, opened_books_may_stage,
+    resting_books, stay_as_they_were, zeros_are_at_rest,
 };
 pub use layout::{
     BOOK_ROWS, BOOK_SIZE, BOOK_START, BOOK_TABLE, RECORD_PLACE, ROW_MOST, ROW_PAGES, ROW_SIZE,

@@ -155,46 +155,81 @@ fn opened(alloc: Global, disk: &mut MemoryDisk, rows: u32) -> Result<usize, Book
     Ok((0..32).filter(|row| store.name(*row).is_some()).count())
 }
 
-/// The disk after five events, with these bytes at their places, opened: whether it comes to this,
-/// and leaves a disk of this digest, if one is given.
-fn comes_to(
-    alloc: Global,
-    changes: &[(u64, &str)],
-    rows: u32,
-    expected: Result<usize, BookOpenError>,
-    sha256: &str,
-) -> Result<bool, AllocError> {
-    let size = BOOK_START + 4 * ROW_SIZE;
-    let mut disk = MemoryDisk::new(alloc, size)?;
+/// A disk with room for 4 rows after five events; nothing where a call failed.
+fn after_five(alloc: Global) -> Result<Option<MemoryDisk>, AllocError> {
+    let mut disk = MemoryDisk::new(alloc, BOOK_START + 4 * ROW_SIZE)?;
     let mut store = BookStore::new(alloc, 3)?;
     for (rows, _sha256) in &EVENTS[..5] {
         if !makes(alloc, &mut store, &mut disk, rows)? {
+            return Ok(None);
+        }
+    }
+    Ok(Some(disk))
+}
+
+/// Puts bytes in the place of others, and fills in what stood there. Answers whether it could.
+fn puts(
+    alloc: Global,
+    disk: &mut MemoryDisk,
+    changes: &[(u64, &str)],
+    old: &mut Vec<Vec<u8>>,
+) -> Result<bool, AllocError> {
+    for (place, new) in changes {
+        let Ok(bytes) = decode(alloc, new) else {
+            return Ok(false);
+        };
+        let mut before = vec![in alloc; 0; bytes.len()]?;
+        if disk.read(*place, &mut before).is_err() || disk.write_at(*place, &bytes).is_err() {
+            return Ok(false);
+        }
+        old.push(before)?;
+    }
+    Ok(true)
+}
+
+/// Whether a disk with these bytes in the place of others is opened as this. Then they are put back.
+fn is_told(
+    alloc: Global,
+    disk: &mut MemoryDisk,
+    changes: &[(u64, &str)],
+    rows: u32,
+    expected: Result<usize, BookOpenError>,
+) -> Result<bool, AllocError> {
+    let mut old = Vec::new(alloc);
+    if !puts(alloc, disk, changes, &mut old)? || opened(alloc, disk, rows) != expected {
+        return Ok(false);
+    }
+    for (change, before) in changes.iter().zip(old.iter()) {
+        if disk.write_at(change.0, before).is_err() {
             return Ok(false);
         }
     }
-    for (place, new) in changes {
-        match decode(alloc, new) {
-            Ok(bytes) => {
-                if disk.write_at(*place, &bytes).is_err() {
-                    return Ok(false);
-                }
-            }
-            Err(_) => return Ok(false),
-        }
-    }
-    let answer = opened(alloc, &mut disk, rows);
-    Ok(answer == expected
-        && (sha256 == "" || has_digest(alloc, &mut disk, BOOK_START + 3 * ROW_SIZE, sha256)?))
+    Ok(true)
+}
+
+/// Whether a disk with these bytes in the place of others is opened with so many rows, and is this
+/// one then.
+fn is_wiped(
+    alloc: Global,
+    disk: &mut MemoryDisk,
+    changes: &[(u64, &str)],
+    count: usize,
+    sha256: &str,
+) -> Result<bool, AllocError> {
+    let mut old = Vec::new(alloc);
+    Ok(puts(alloc, disk, changes, &mut old)?
+        && opened(alloc, disk, 3) == Ok(count)
+        && has_digest(alloc, disk, BOOK_START + 3 * ROW_SIZE, sha256)?)
 }
 
 const KEPT: &str = "9449f4a4f8c9043f4b948758907c7c6f65af1ef0cd6ccddb91d40909e1aec456";
 const ZEROS: &str = "1ae9e790e465ff82d407fc8a58a9211354db93ce238ff8179ae87a2c22b7ab62";
 
-fn table(table: u32, at: u64) -> Result<usize, BookOpenError> {
+const fn table(table: u32, at: u64) -> Result<usize, BookOpenError> {
     Err(BookOpenError::DamagedTable { table, at })
 }
 
-fn row(row: u32, at: u64) -> Result<usize, BookOpenError> {
+const fn row(row: u32, at: u64) -> Result<usize, BookOpenError> {
     Err(BookOpenError::DamagedRow { row, at })
 }
 
@@ -206,54 +241,70 @@ fn books_are_opened_again(rt: HostRuntime) -> Result<(), Fail> {
 }
 
 // Table 0 is open with turn 2. Row 0 has the pages 1 and 2, row 2 the pages 0, 2 and 3.
+const WIPED: [&[(u64, &str)]; 8] = [
+    &[],
+    &[(20_480, "a501")],
+    &[(20_480, "a500")],
+    &[(20_480, "a504")],
+    &[(20_480, "0107")],
+    &[(20_482, "ff"), (40_959, "ff")],
+    &[(1_638_400, "01")],
+    &[(65_536, "ff"), (4_780_032, "ff")],
+];
+
+const DAMAGED: [(&[(u64, &str)], Result<usize, BookOpenError>); 14] = [
+    (&[(20_480, "a502")], table(1, 1)),
+    (&[(20_480, "a502"), (2, "01")], table(1, 1)),
+    (&[(20_480, "a503"), (20_482, "01")], table(1, 2)),
+    (&[(2, "01")], table(0, 2)),
+    (&[(512, "02")], table(0, 512)),
+    (&[(1537, "0161")], table(0, 1538)),
+    (&[(558, "0180")], table(0, 558)),
+    (&[(69_632, "00")], row(0, 4096)),
+    (&[(3_211_264, "00")], row(2, 4096)),
+    (&[(3_211_264, "00"), (69_632, "00")], row(0, 4096)),
+    (&[(3_227_361, "01")], row(2, 16_097)),
+    (&[(554, "00001fff")], row(0, 12_287)),
+    (&[(3_211_264, "00"), (20_479, "01")], table(0, 20_479)),
+    (&[(558, "017f")], row(0, 4096)),
+];
+
+/// Whether all but what counts is wiped.
+fn all_else_is_wiped(alloc: Global) -> Result<bool, AllocError> {
+    let Some(mut disk) = after_five(alloc)? else {
+        return Ok(false);
+    };
+    for changes in WIPED {
+        if !is_wiped(alloc, &mut disk, changes, 2, KEPT)? {
+            return Ok(false);
+        }
+    }
+    Ok(is_wiped(alloc, &mut disk, &[(1, "00"), (20_480, "a400")], 0, ZEROS)?)
+}
+
+/// Whether damage is told, and nothing is written then.
+fn all_damage_is_told(alloc: Global) -> Result<bool, AllocError> {
+    let Some(mut disk) = after_five(alloc)? else {
+        return Ok(false);
+    };
+    for (changes, expected) in DAMAGED {
+        if !is_told(alloc, &mut disk, changes, 3, expected)? {
+            return Ok(false);
+        }
+    }
+    Ok(is_told(alloc, &mut disk, &[], 2, table(0, 1536))?
+        && is_told(alloc, &mut disk, &[], 4, Ok(2))?
+        && has_digest(alloc, &mut disk, BOOK_START + 3 * ROW_SIZE, KEPT)?)
+}
+
 #[test]
 fn what_does_not_count_is_wiped(rt: HostRuntime) -> Result<(), Fail> {
-    let rows: [(&[(u64, &str)], usize, &str); 11] = [
-        (&[], 2, KEPT),
-        (&[(20_480, "a501")], 2, KEPT),
-        (&[(20_480, "a500")], 2, KEPT),
-        (&[(20_480, "a504")], 2, KEPT),
-        (&[(20_480, "0107")], 2, KEPT),
-        (&[(20_482, "ff"), (40_959, "ff")], 2, KEPT),
-        (&[(1_638_400, "01")], 2, KEPT),
-        (&[(65_536, "ff"), (4_780_032, "ff")], 2, KEPT),
-        (&[(0, "00")], 0, ZEROS),
-        (&[(0, "a400")], 0, ZEROS),
-        (&[(1, "00")], 0, ZEROS),
-    ];
-    for (changes, count, sha256) in rows {
-        assert!(rt; comes_to(rt.alloc(), changes, 3, Ok(count), sha256)?);
-    }
+    assert!(rt; all_else_is_wiped(rt.alloc())?);
     Ok(())
 }
 
 #[test]
 fn damage_is_told(rt: HostRuntime) -> Result<(), Fail> {
-    let rows: [(&[(u64, &str)], Result<usize, BookOpenError>); 14] = [
-        (&[(20_480, "a502")], table(1, 1)),
-        (&[(20_480, "a502"), (2, "01")], table(1, 1)),
-        (&[(20_480, "a503"), (20_482, "01")], table(1, 2)),
-        (&[(2, "01")], table(0, 2)),
-        (&[(512, "02")], table(0, 512)),
-        (&[(1537, "0161")], table(0, 1538)),
-        (&[(558, "0180")], table(0, 558)),
-        (&[(69_632, "00")], row(0, 4096)),
-        (&[(3_211_264, "00")], row(2, 4096)),
-        (&[(3_211_264, "00"), (69_632, "00")], row(0, 4096)),
-        (&[(3_227_361, "01")], row(2, 16_097)),
-        (&[(554, "00001fff")], row(0, 12_287)),
-        (&[(3_211_264, "00"), (20_479, "01")], table(0, 20_479)),
-        (&[(558, "017f")], row(0, 4096)),
-    ];
-    for (changes, expected) in rows {
-        assert!(rt; comes_to(rt.alloc(), changes, 3, expected, "")?);
-    }
-    Ok(())
-}
-
-#[test]
-fn as_many_rows_as_there_are(rt: HostRuntime) -> Result<(), Fail> {
-    assert!(rt; comes_to(rt.alloc(), &[], 2, table(0, 1536), KEPT)?);
-    assert!(rt; comes_to(rt.alloc(), &[], 4, Ok(2), KEPT)?);
+    assert!(rt; all_damage_is_told(rt.alloc())?);
     Ok(())
 }

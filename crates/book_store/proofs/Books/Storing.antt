@@ -14,12 +14,12 @@ use Rattle.book_store.specs.Store.{BookStore, IsLawfulStore, IsNewName, body_of,
 use Rattle.book_store.specs.declared.layout.TheConstants.{BOOK_ROWS, ROW_PAGES}
 
 -- the row that a mark is of
-record IsMarkOf (row : Option BookRow) (numbers : List ℕ) (mark : RowMark) : Type 0 where
+pub record IsMarkOf (row : Option BookRow) (numbers : List ℕ) (mark : RowMark) : Type 0 where
   pub shown : BookRow
   pub is : row ≡ Some shown
   pub same : record { name = shown.name; len = length shown.text; numbers = numbers } ≡ mark
 
-mark_of : (row : Option BookRow) (numbers : List ℕ) (mark : RowMark) → row_mark row numbers ≡ Some mark
+pub mark_of : (row : Option BookRow) (numbers : List ℕ) (mark : RowMark) → row_mark row numbers ≡ Some mark
     → IsMarkOf row numbers mark
 mark_of None numbers mark is = absurd (let e : None ≡ Some mark = is in cc)
 mark_of (Some shown) numbers mark is = record {

@@ -5,7 +5,8 @@ use Rattle.dr_base.specs.Bytes.{AreBytes}
 use Rattle.dr_disk.specs.State.{DiskState, OnSeen}
 use Rattle.pages.specs.Tables.{counts, open_table, tables_standing}
 use Rattle.book_store.proofs.Openings.BookRead.{row_reading, table_reading}
-use Rattle.book_store.proofs.Openings.LaidTables.{laid_marks, laid_row, said_at}
+use Rattle.book_store.proofs.Sayings.LaidTables.{laid_marks, laid_row}
+use Rattle.book_store.proofs.Sayings.Said.{said_at}
 use Rattle.book_store.specs.Judging.{book_fault}
 use Rattle.book_store.specs.Layout.{HasBook, book_layout}
 use Rattle.book_store.specs.Locating.{IsCause, table_refusal}

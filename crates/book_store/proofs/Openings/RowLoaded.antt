@@ -17,7 +17,7 @@ use Rattle.paged_records.specs.declared.loading.Loaded.TheVariants.{Faulty, Whol
 use Rattle.paged_records.specs.Loading.{IsLoaded, IsNamed, IsNamedRecord, pages_named}
 use Rattle.book_store.proofs.Faultless.{mark_numbers_small, mark_small, name_long}
 use Rattle.book_store.proofs.Names.{record_back}
-use Rattle.book_store.proofs.Openings.LaidTables.{said}
+use Rattle.book_store.proofs.Sayings.Said.{said}
 use Rattle.book_store.proofs.RowTables.{laid_table}
 use Rattle.book_store.specs.Kept.{row_bounds, text_of}
 use Rattle.book_store.specs.Marks.{IsLaidRow, IsRowMark, RowMark, mark_in, mark_text}

@@ -11,8 +11,9 @@ use Rattle.relay_wire.specs.Names.{is_name}
 use Rattle.paged_records.specs.declared.kept.Kept.{Kept}
 use Rattle.paged_records.specs.Faults.{record_fault}
 use Rattle.book_store.proofs.Books.RowReadings.{row_whole}
-use Rattle.book_store.proofs.Openings.LaidRows.{mark_absent, mark_present}
-use Rattle.book_store.proofs.Openings.LaidTables.{said}
+use Rattle.book_store.proofs.Books.Storing.{mark_of}
+use Rattle.book_store.proofs.Sayings.LaidRows.{mark_absent, mark_present}
+use Rattle.book_store.proofs.Sayings.Said.{said}
 use Rattle.book_store.proofs.Openings.RowLoaded.{IsPresentAs}
 use Rattle.book_store.specs.AtRest.{row_mark, row_pages}
 use Rattle.book_store.specs.Held.{numbers_seen, row_seen, seen_as}
@@ -85,21 +86,6 @@ module _ (fault_at : List ℕ → Option ℕ) (row : List ℕ) (held : HeldRow) 
   read_absent has_read = subst (HasReadRow has_read None) (sym hidden) tt
 
 -- ---- a row that is held has no damage
-
--- the row that a mark is of
-record IsMarkOf (row : Option BookRow) (numbers : List ℕ) (mark : RowMark) : Type 0 where
-  pub shown : BookRow
-  pub is : row ≡ Some shown
-  pub same : record { name = shown.name; len = length shown.text; numbers = numbers } ≡ mark
-
-mark_of : (row : Option BookRow) (numbers : List ℕ) (mark : RowMark) → row_mark row numbers ≡ Some mark
-    → IsMarkOf row numbers mark
-mark_of None numbers mark is = absurd (let e : None ≡ Some mark = is in cc)
-mark_of (Some shown) numbers mark is = record {
-  shown = shown;
-  is = refl;
-  same = let e : Some (record { name = shown.name; len = length shown.text; numbers = numbers }) ≡ Some mark = is in cc;
-}
 
 unsaid : (fault_at : List ℕ → Option ℕ) (r : ℕ) (row : List ℕ) (pages : List (List ℕ)) → slice_index row 0 ≡ 0
     → row_damage fault_at r row pages ≡ None

@@ -12,7 +12,7 @@ use Rattle.record_pages.specs.Tables.{entry_fault}
 use Rattle.book_store.proofs.Books.Listed.{Book, mark_at, marks_long, pages_listed}
 use Rattle.book_store.proofs.Books.RetireCall.{no_drops}
 use Rattle.book_store.proofs.Books.Seen.{none_dropped}
-use Rattle.book_store.proofs.Openings.LaidTables.{said_at, said_long}
+use Rattle.book_store.proofs.Sayings.Said.{said_at, said_long}
 use Rattle.book_store.proofs.Openings.RowPages.{read_all}
 use Rattle.book_store.proofs.Openings.StoreShot.{shown_open, table_open}
 use Rattle.book_store.specs.AtRest.{IsBookMarked, all_pages, row_mark, row_marks, row_pages}

@@ -1,4 +1,4 @@
-use Rattle.book_store.proofs.Openings.LaidTables.{laid_table}
+use Rattle.book_store.proofs.Sayings.LaidTables.{laid_table}
 use Rattle.book_store.proofs.laws.faultless_tables_are_laid.Goals as goal
 
 pub returns : goal.returns

@@ -4,7 +4,7 @@ use Rattle.pages.specs.Tables.{open_table}
 use Rattle.pages.proofs.Looking.{looks_as, looks_failed, looks_none}
 use Rattle.pages.proofs.Newest.{open_high, open_low}
 use Rattle.book_store.proofs.Openings.Causes.{laid_rows, no_refusal, rows_cause, table_cause}
-use Rattle.book_store.proofs.Openings.LaidTables.{laid_table}
+use Rattle.book_store.proofs.Sayings.LaidTables.{laid_table}
 use Rattle.book_store.proofs.Openings.StoreRead.{rows_hold}
 use Rattle.book_store.specs.Judging.{book_fault}
 use Rattle.book_store.specs.Locating.{IsLocated}

@@ -7,7 +7,7 @@ use Rattle.book_store.specs.Counts.{settlings}
 use Rattle.book_store.specs.Layout.{book_layout}
 use Rattle.book_store.specs.Locating.{store_with}
 use Rattle.book_store.proofs.Openings.Likes.{like_shots}
-use Rattle.book_store.proofs.Openings.HeldMarks.{held_marks}
+use Rattle.book_store.proofs.Openings.RowMarks.{held_marks}
 use Rattle.book_store.proofs.Openings.NewerSettled.{newer_blank, newer_body, newer_counts, newer_gate, newer_mute, newer_rests, newer_unnamed}
 use Rattle.book_store.proofs.Openings.Wiping.{on_ok}
 use Rattle.book_store.specs.declared.layout.TheConstants.{BOOK_ROWS, ROW_PAGES}

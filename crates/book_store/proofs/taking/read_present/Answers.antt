@@ -1,7 +1,7 @@
 use Rattle.std.proofs.Common.{◌≡◌, None, Some, refl, sym, ◌∙◌, subst, arith}
 use Rattle.pages.proofs.Looking.{looks_as}
 use Rattle.paged_records.specs.Loading.{IsReadRecord}
-use Rattle.book_store.proofs.Openings.LaidTables.{said}
+use Rattle.book_store.proofs.Sayings.Said.{said}
 use Rattle.book_store.proofs.Openings.RowLoaded.{present_as}
 use Rattle.book_store.proofs.Openings.RowTaken.{added, none_dropped, present_named, row_record}
 use Rattle.book_store.specs.RowReading.{IsKeptRecord, IsRowKept, IsRowLoaded}

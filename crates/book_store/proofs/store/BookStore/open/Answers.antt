@@ -9,7 +9,8 @@ use Rattle.book_store.specs.Counts.{faulted, opening_reads, openings}
 use Rattle.book_store.specs.declared.errors.BookOpenError.TheVariants.{Memory, StoreFault}
 use Rattle.book_store.specs.Opened.{IsBookLeft, IsBookOpened, IsBookRefused, IsLookedAt}
 use Rattle.book_store.specs.Readers.{HaveReadRows}
-use Rattle.book_store.proofs.Openings.Answered.{answered_ahead, answered_few, answered_fate, answered_looked, answered_memory, answered_moment, answered_opened, answered_quiet, answered_read, answered_reads, answered_refused, answered_still, faulted_few, memory_few, outcome_whole, refused_by}
+use Rattle.book_store.proofs.Openings.Answered.{answered_ahead, answered_few, answered_fate, answered_looked, answered_memory, answered_moment, answered_opened, answered_quiet, answered_read, answered_reads, answered_refused, answered_still, outcome_whole}
+use Rattle.book_store.proofs.Openings.Refusals.{faulted_few, memory_few, refused_by}
 use Rattle.book_store.proofs.store.BookStore.open.Goals as goal
 
 pub returns-clause-opened : goal.returns-clause-opened

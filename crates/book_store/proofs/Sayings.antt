@@ -1,0 +1,4 @@
+pub mod RowFaults
+pub mod LaidRows
+pub mod Said
+pub mod LaidTables
