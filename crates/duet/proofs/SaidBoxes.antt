@@ -19,7 +19,8 @@ use Rattle.dr_model.proofs.Growth.SaidStays.{packets_stay}
 use Rattle.dr_model.proofs.Taking.PacketsApart.{real}
 use Rattle.dr_model.proofs.Worlds.LawfulWorlds.{lawful_next}
 use Rattle.kem_laws.specs.Mechanism.{Mechanism}
-use Rattle.relay_core.specs.Boxes.{Answer, Box, Kept, answer_of, answers_of, becomes, after_box, has_number, is_full, is_named, of_first, stays, with_packet, without_number}
+use Rattle.relay_core.specs.Boxes.{Answer, Box, Kept, answer_in, answer_of, answers_of, becomes, after_box, has_number, is_full, is_named, of_first, stays, with_packet, without_number}
+use Rattle.relay_core.proofs.Judged.{IsAnswered, is_answered, is_denied, is_served}
 use Rattle.relay_wire.specs.Replies.{absent, acked, box_full, stored}
 use Rattle.relay_wire.specs.Requests.{Asked, Asking, acks, fetches, posts}
 use Rattle.session_model.specs.Clients.{Client, say_check}
@@ -89,6 +90,15 @@ module _ (Is : List ℕ → Type 0) where
       either_holds (has_number number box.packets) (becomes acked (without_number box number)) (stays (absent number) box)
       (All-filter (λ (kept : Kept). not (kept.number == number)) (λ (kept : Kept). Is kept.packet) box.packets holds) holds
 
+  -- whoever asks
+  answer_holds_in : (box : Box) (asked : Asked) → HoldsOnly Is box → AsksOnly Is asked.ask → HoldsOnly Is (answer_in box asked).next
+  answer_holds_in box asked holds is = by_answer (is_answered box asked)
+    where
+      by_answer : IsAnswered box asked (answer_in box asked) → HoldsOnly Is (answer_in box asked).next
+      by_answer (is_served reply packets) =
+          subst (All (λ (kept : Kept). Is kept.packet)) (sym packets) (answer_holds box asked.ask holds is)
+      by_answer (is_denied rule last still) = subst (λ (a : Answer). HoldsOnly Is a.next) (sym still) holds
+
   -- the relay keeps them so
   pub relay_holds : (boxes : List Box) (asked : Asked) → All (HoldsOnly Is) boxes → AsksOnly Is asked.ask
       → All (HoldsOnly Is) (answers_of boxes asked).next
@@ -103,8 +113,8 @@ module _ (Is : List ℕ → Type 0) where
       rest = All-tail (HoldsOnly Is) box boxes hold
 
       by_name : (named : Bool) → All (HoldsOnly Is) (answers_of boxes asked).next
-          → All (HoldsOnly Is) (if named then of_first (answer_of box asked.ask) boxes else after_box box (answers_of boxes asked)).next
-      by_name true more = All-cons (HoldsOnly Is) (answer_of box asked.ask).next boxes (answer_holds box asked.ask first is) rest
+          → All (HoldsOnly Is) (if named then of_first (answer_in box asked) boxes else after_box box (answers_of boxes asked)).next
+      by_name true more = All-cons (HoldsOnly Is) (answer_in box asked).next boxes (answer_holds_in box asked first is) rest
       by_name false more = All-cons (HoldsOnly Is) box (answers_of boxes asked).next first more
 
 -- boxes of packets that are one thing hold packets that are another, where that follows

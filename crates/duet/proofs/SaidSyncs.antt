@@ -1,5 +1,5 @@
 -- A sync of a script fetches packets that were said, and posts no others.
-use Rattle.std.proofs.Common.{List, None, Option, Some, [], ap, false, refl, subst, suc, true, zero, Bool, ℕ, ◌∷◌, ◌≡◌}
+use Rattle.std.proofs.Common.{List, None, Option, Some, [], ap, false, refl, subst, suc, sym, true, zero, Bool, ℕ, ◌∷◌, ◌≡◌}
 use Rattle.std.specs.Prelude.{All, IfSome, if◌then◌else◌}
 use Rattle.std.proofs.lemmas.List.Elements.{All-head, All-tail}
 use Rattle.dr_base.specs.declared.position.Side.{Side}
@@ -13,9 +13,10 @@ use Rattle.dr_model.specs.Theorems.Acting.{IsFairAct}
 use Rattle.dr_model.specs.Theorems.LawfulWorlds.{IsLawfulWorld}
 use Rattle.dr_model.proofs.Acting.ActsFollowing.{act_leaves}
 use Rattle.kem_laws.specs.Mechanism.{IsLawfulMechanism, Mechanism}
-use Rattle.relay_core.specs.Boxes.{Box, Kept, answer_of, answers_of, after_box, is_named, of_first, oldest}
+use Rattle.relay_core.specs.Boxes.{Answer, Box, Kept, answer_in, answer_of, answers_of, after_box, is_named, of_first, oldest}
+use Rattle.relay_core.proofs.Judged.{IsAnswered, is_answered, is_denied, is_served}
 use Rattle.relay_link.specs.Connections.{kept_before}
-use Rattle.relay_wire.specs.Requests.{Asked, fetches}
+use Rattle.relay_wire.specs.Requests.{Asked, bare_request, fetches}
 use Rattle.sync_model.specs.Carried.{relay_after}
 use Rattle.sync_model.specs.Courses.{as_list}
 use Rattle.sync_model.specs.Moves.{Wait, acking, asked_in, posting_of, fetching, over, posting}
@@ -34,7 +35,7 @@ use Rattle.duet.proofs.SaidBoxes.{AsksOnly, HoldsOnly, IsHonest, IsSaidPacket, K
 -- ---- one reply
 
 abbrev fetch_of : List ℕ → Asked
-fetch_of name = record { name = name; ask = fetches }
+fetch_of name = bare_request name fetches
 
 -- a fetch brings a packet of the boxes
 module _ {S : Type 0} (Is : S → List ℕ → Type 0) (s : S) (n : ℕ) where
@@ -42,15 +43,25 @@ module _ {S : Type 0} (Is : S → List ℕ → Type 0) (s : S) (n : ℕ) where
   oldest_is [] are = tt
   oldest_is (kept ∷ more) are = All-head (λ (x : Kept). Is s x.packet) kept more are
 
+  -- or it is denied
+  fetched_in : (box : Box) (name : List ℕ) → HoldsOnly (Is s) box → IsFairReply Is s (fetching n) (answer_in box (fetch_of name)).reply
+  unfolding answer_of
+  fetched_in box name holds = by_answer (is_answered box (fetch_of name))
+    where
+      by_answer : IsAnswered box (fetch_of name) (answer_in box (fetch_of name))
+          → IsFairReply Is s (fetching n) (answer_in box (fetch_of name)).reply
+      by_answer (is_served reply packets) = subst (IsFairReply Is s (fetching n)) (sym reply) (oldest_is box.packets holds)
+      by_answer (is_denied rule last still) = subst (λ (a : Answer). IsFairReply Is s (fetching n) a.reply) (sym still) tt
+
   fetched_is : (name : List ℕ) (boxes : List Box) → All (HoldsOnly (Is s)) boxes
       → IsFairReply Is s (fetching n) (answers_of boxes (fetch_of name)).reply
-  unfolding answers_of answer_of
+  unfolding answers_of
   fetched_is name [] hold = tt
   fetched_is name (box ∷ boxes) hold = by_name (is_named name box) (fetched_is name boxes (All-tail (HoldsOnly (Is s)) box boxes hold))
     where
       by_name : (named : Bool) → IsFairReply Is s (fetching n) (answers_of boxes (fetch_of name)).reply
-          → IsFairReply Is s (fetching n) (if named then of_first (answer_of box fetches) boxes else after_box box (answers_of boxes (fetch_of name))).reply
-      by_name true more = oldest_is box.packets (All-head (HoldsOnly (Is s)) box boxes hold)
+          → IsFairReply Is s (fetching n) (if named then of_first (answer_in box (fetch_of name)) boxes else after_box box (answers_of boxes (fetch_of name))).reply
+      by_name true more = fetched_in box name (All-head (HoldsOnly (Is s)) box boxes hold)
       by_name false more = more
 
 -- a post sends the oldest packet of the outbox

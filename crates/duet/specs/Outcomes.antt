@@ -4,6 +4,7 @@ use Rattle.dr_base.specs.declared.position.Side.{Side}
 use Rattle.dr_disk.specs.declared.call.Call.{Call}
 use Rattle.kem_laws.specs.Mechanism.{Mechanism}
 use Rattle.relay_core.specs.Boxes.{Box, empty_box}
+use Rattle.relay_core.specs.Specs.{bare_spec}
 use Rattle.relay_link.specs.Connections.{kept_before}
 use Rattle.session_model.specs.Clients.{Client}
 use Rattle.session_model.specs.declared.answer.Answer.{Answer}
@@ -171,4 +172,5 @@ deed_in k s deed = unless_barred (deed_side deed) s (freely_in k s deed) (barrin
 
 -- a relay with the boxes of both sides, which are empty
 abbrev pub opening_boxes : Client → List Box
-opening_boxes first = empty_box (own_box first) ∷ empty_box (peers_box first) ∷ []
+opening_boxes first =
+    empty_box (bare_spec (own_box first)) ∷ empty_box (bare_spec (peers_box first)) ∷ []

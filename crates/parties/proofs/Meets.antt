@@ -13,7 +13,7 @@ use Rattle.kem_laws.specs.Mechanism.{Mechanism}
 use Rattle.relay_wire.specs.Names.{is_name}
 use Rattle.relay_wire.specs.Requests.{Asked}
 use Rattle.relay_wire.specs.Replies.{IsLawfulReplied, Replied}
-use Rattle.relay_core.specs.Boxes.{Box}
+use Rattle.relay_core.specs.Boxes.{AreUnguarded, Box}
 use Rattle.relay_core.specs.Lawful.{IsLawfulBox}
 use Rattle.relay_core.specs.Streams.{reply_bytes, served}
 use Rattle.relay_pipe.specs.Exchanging.{Exchanges}
@@ -56,7 +56,7 @@ use Rattle.parties.specs.Meetings.{EndsBy, Plays, Reaches, IsOpenAtRest}
 
 module _ (k : Mechanism) (prefix : List ℕ) (kept : ℕ) (boxes : List Box) (a b : Moment) (now : LinkConnection)
     (own : is_name (own_box a.client.kept) ≡ true) (peers : is_name (peers_box a.client.kept) ≡ true) (packets : ArePackets (waiting a.client.kept))
-    (lawful_boxes : All IsLawfulBox boxes) (passes : a.disk.fate ≡ all_pass) (stands : behind_of now ≡ behind_of (fresh_connection kept boxes))
+    (lawful_boxes : All IsLawfulBox boxes) (open_boxes : AreUnguarded boxes) (passes : a.disk.fate ≡ all_pass) (stands : behind_of now ≡ behind_of (fresh_connection kept boxes))
     (lawful : IsLawfulConnection now) (later : a.sink.faults ≤ b.sink.faults) where
   abbrev first : Client
   first = a.client.kept
@@ -141,7 +141,7 @@ module _ (k : Mechanism) (prefix : List ℕ) (kept : ℕ) (boxes : List Box) (a 
     not_wrong inbox_full at what is ends = absurd (cc)
     not_wrong box_is_full at what is ends = absurd (cc)
     not_wrong no_such_box at what is ends = absurd (cc)
-    not_wrong wrong at what is ends = never_wrong p kept first boxes (ap (λ (x : Meeting Client). x.course.wait) (over_so wrong ends) ∙ ends.is_over)
+    not_wrong wrong at what is ends = never_wrong p kept first boxes open_boxes (ap (λ (x : Meeting Client). x.course.wait) (over_so wrong ends) ∙ ends.is_over)
 
     -- a reply comes
     not_unheard : (fault : PeerFault) → IsUnheard p first replies start end fault → ⊥

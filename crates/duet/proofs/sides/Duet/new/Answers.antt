@@ -5,6 +5,7 @@ use Rattle.dr_base.specs.declared.position.Side.TheVariants.{First, Second}
 use Rattle.dr_model.specs.Conversations.Formats.{Formats}
 use Rattle.dr_model.specs.Machines.Draws.{Draws}
 use Rattle.relay_core.specs.Boxes.{Box, empty_box}
+use Rattle.relay_core.specs.Specs.{bare_spec}
 use Rattle.relay_link.specs.Connections.{boxes_now}
 use Rattle.relay_link.proofs.Bringing.{same_boxes}
 use Rattle.client.specs.Syncing.Lines.{own_box, peers_box}
@@ -23,8 +24,8 @@ returns-in-Ok-begin-2-clause-ok g c =
     let second = c.in-Ok-begin-2.ensures.ok in
     let names = c.names-names.result in
     let boxes : boxes_now c.in-Ok-new.relay ≡ opening_boxes begun =
-    ap boxes_now c.in-Ok-new.ensures ∙ same_boxes (empty_box names.own ∷ empty_box names.peers ∷ [])
-    ∙ ap₂ (λ (own peers : List ℕ). empty_box own ∷ empty_box peers ∷ []) (c.names-names.ensures.own ∙ ap (λ (p : PartyNow). own_box p.kept) first) (c.names-names.ensures.peers ∙ ap (λ (p : PartyNow). peers_box p.kept) first) in
+    ap boxes_now c.in-Ok-new.ensures ∙ same_boxes (empty_box (bare_spec names.own) ∷ empty_box (bare_spec names.peers) ∷ [])
+    ∙ ap₂ (λ (own peers : List ℕ). empty_box (bare_spec own) ∷ empty_box (bare_spec peers) ∷ []) (c.names-names.ensures.own ∙ ap (λ (p : PartyNow). own_box p.kept) first) (c.names-names.ensures.peers ∙ ap (λ (p : PartyNow). peers_box p.kept) first) in
     ap₂ (λ (a b : PartyNow).
     duet_now key a b c.in-Ok.posts.items c.new-in-Ok-begin-2.result (boxes_now c.in-Ok-new.relay) (vec_capacity c.in-Ok.posts))
     first second
