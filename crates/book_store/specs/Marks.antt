@@ -48,7 +48,8 @@ pub record AreMarks (rows : ℕ) (marks : List (Option RowMark)) : Type 0 where
 unfoldable pub mark_in : List ℕ → Option RowMark
 mark_in row =
     if slice_index row 0 == 1
-    then Some (record { name = name_in row; len = row_length row; numbers = row_names row }) else None
+    then Some (record { name = name_in row; len = row_length row; numbers = row_names row })
+    else None
 
 -- k rows from row r on
 abbrev pub marks_by : ℕ → ℕ → List ℕ → List (Option RowMark)

@@ -59,7 +59,8 @@ fn wipe_table<D: Disk>(
     ensures still { gate ≡ 0 → body.now ≡ replicate (BOOK_TABLE - 1) 0
         → AreReadBlank (book_layout rows) named.now (D.state disk.old)
         → IsUntouched (D.state disk.old) (D.state disk.new) }
-    ensures reads { ReadsAtMost (lookings (book_layout rows)) (D.state disk.old) (D.state disk.new) }
+    ensures reads { ReadsAtMost (lookings (book_layout rows))
+        (D.state disk.old) (D.state disk.new) }
     ensures few { MakesAtMost (tidyings (book_layout rows)) one_of
         (D.state disk.old) (D.state disk.new) result }
 {

@@ -189,7 +189,8 @@ fn puts(
     Ok(true)
 }
 
-/// Whether a disk with these bytes in the place of others is opened as this. Then they are put back.
+/// Whether a disk with these bytes in the place of others is opened as this. Then the others are put
+/// back.
 fn is_told(
     alloc: Global,
     disk: &mut MemoryDisk,
