@@ -2,7 +2,7 @@
 use Rattle.std.specs.Prelude.{ℕ, List, [], ◌++◌, codes, decimal}
 use Rattle.answer_lines.specs.Answers.{refusal_text}
 use Rattle.endings.specs.declared.ending.Ending.{Ending}
-use Rattle.endings.specs.declared.ending.Ending.TheVariants.{Done, Usage, InputTooLong, BadKey, NotHex, BadBox, BoxName, BoxKeys, BadLine, Refused, BoxFull, NoBox, ReadFault, DiskFault, LinkFault, DrawFault, NoSession, Exists, Damaged, DamagedArea, Peer, NoMemory}
+use Rattle.endings.specs.declared.ending.Ending.TheVariants.{Done, Usage, InputTooLong, BadKey, NotHex, BadBox, BoxName, BoxKeys, BadName, NameTaken, NoName, BookFull, BadLine, Refused, BoxFull, NoBox, ReadFault, DiskFault, LinkFault, DrawFault, NoSession, Exists, Damaged, DamagedArea, DamagedBookTable, DamagedBookRow, Peer, NoMemory}
 use Rattle.relay_pipe.specs.declared.faults.PeerKind.{PeerKind}
 use Rattle.relay_pipe.specs.declared.faults.PeerKind.TheVariants.{Frame, Kind, Size, Wrong, Ended}
 
@@ -16,6 +16,10 @@ code_of NotHex = 3
 code_of (BadBox number) = 3
 code_of (BoxName number) = 3
 code_of (BoxKeys number) = 3
+code_of BadName = 3
+code_of NameTaken = 3
+code_of NoName = 3
+code_of (BookFull rows) = 3
 code_of (BadLine number) = 3
 code_of (Refused refusal) = 3
 code_of BoxFull = 3
@@ -28,6 +32,8 @@ code_of NoSession = 9
 code_of Exists = 10
 code_of (Damaged slot at) = 11
 code_of (DamagedArea area slot at) = 11
+code_of (DamagedBookTable table at) = 11
+code_of (DamagedBookRow row at) = 11
 code_of (Peer what at) = 12
 code_of NoMemory = 13
 
@@ -49,6 +55,10 @@ ending_text NotHex = codes "refused: NotHex"
 ending_text (BadBox number) = codes "refused: BadBox " ++ decimal number
 ending_text (BoxName number) = codes "refused: BoxName " ++ decimal number
 ending_text (BoxKeys number) = codes "refused: BoxKeys " ++ decimal number
+ending_text BadName = codes "refused: BadName"
+ending_text NameTaken = codes "refused: NameTaken"
+ending_text NoName = codes "refused: NoName"
+ending_text (BookFull rows) = codes "refused: BookFull " ++ decimal rows
 ending_text (BadLine number) = codes "refused: Script " ++ decimal number
 ending_text (Refused refusal) = codes "refused: " ++ refusal_text refusal
 ending_text BoxFull = codes "refused: BoxFull"
@@ -62,6 +72,10 @@ ending_text Exists = codes "session exists"
 ending_text (Damaged slot at) = codes "damaged slot " ++ decimal slot ++ codes " at " ++ decimal at
 ending_text (DamagedArea area slot at) =
     codes "damaged area " ++ decimal area ++ codes " slot " ++ decimal slot ++ codes " at " ++ decimal at
+ending_text (DamagedBookTable table at) =
+    codes "damaged book table " ++ decimal table ++ codes " at " ++ decimal at
+ending_text (DamagedBookRow row at) =
+    codes "damaged book row " ++ decimal row ++ codes " at " ++ decimal at
 ending_text (Peer what at) = codes "peer: " ++ peer_kind_text what ++ codes " at " ++ decimal at
 ending_text NoMemory = codes "no memory"
 

@@ -25,6 +25,14 @@ pub enum Ending {
     BoxName(u32),
     /// The first box, from 1, whose area holds it with another guard.
     BoxKeys(u32),
+    /// The name of a session isn't lawful.
+    BadName,
+    /// A session of the book has the name.
+    NameTaken,
+    /// No session of the book has the name.
+    NoName,
+    /// Each of the book's rows, this many, has a session.
+    BookFull(u32),
     /// The script's first bad line, from 1.
     BadLine(u32),
     /// A side refuses.
@@ -49,6 +57,10 @@ pub enum Ending {
     Damaged { slot: u32, at: u64 },
     /// A table of a relay's area, from 0, or its record is damaged at this place.
     DamagedArea { area: u32, slot: u32, at: u64 },
+    /// A table of the book, 0 or 1, is damaged at this place.
+    DamagedBookTable { table: u32, at: u64 },
+    /// The record of a row of the book, from 0, is damaged at this place.
+    DamagedBookRow { row: u32, at: u64 },
     /// The relay sent bytes that are no reply, at this place of the reply's frame.
     Peer { kind: PeerKind, at: u32 },
     /// There was no memory.
@@ -69,6 +81,10 @@ impl Ending {
             Ending::BadBox(_) => 3,
             Ending::BoxName(_) => 3,
             Ending::BoxKeys(_) => 3,
+            Ending::BadName => 3,
+            Ending::NameTaken => 3,
+            Ending::NoName => 3,
+            Ending::BookFull(_) => 3,
             Ending::BadLine(_) => 3,
             Ending::Refused(_) => 3,
             Ending::BoxFull => 3,
@@ -81,6 +97,8 @@ impl Ending {
             Ending::Exists => 10,
             Ending::Damaged { .. } => 11,
             Ending::DamagedArea { .. } => 11,
+            Ending::DamagedBookTable { .. } => 11,
+            Ending::DamagedBookRow { .. } => 11,
             Ending::Peer { .. } => 12,
             Ending::NoMemory => 13,
         }

@@ -45,13 +45,13 @@ fn put_refused(line: &mut OutputLine, refusal: Refusal)
     put_refusal(line, refusal);
 }
 
-/// Puts a damaged slot after what stands.
-fn put_damaged(line: &mut OutputLine, slot: u32, at: u64)
+/// Puts which one is damaged, and where, after what stands.
+fn put_damaged(line: &mut OutputLine, which: u32, at: u64)
     requires { length line.old + 60 ≤ ROOM }
-    ensures bytes { line.new ≡ line.old ++ decimal slot ++ codes " at " ++ decimal at }
+    ensures bytes { line.new ≡ line.old ++ decimal which ++ codes " at " ++ decimal at }
     ensures len { length line.new ≤ length line.old + 60 }
 {
-    line.number(u64::from(slot));
+    line.number(u64::from(which));
     put_named(line, b" at ", at);
 }
 
@@ -84,6 +84,10 @@ fn put_ending(line: &mut OutputLine, ending: Ending)
         Ending::BadBox(number) => put_named(line, b"refused: BadBox ", u64::from(number)),
         Ending::BoxName(number) => put_named(line, b"refused: BoxName ", u64::from(number)),
         Ending::BoxKeys(number) => put_named(line, b"refused: BoxKeys ", u64::from(number)),
+        Ending::BadName => line.text(b"refused: BadName"),
+        Ending::NameTaken => line.text(b"refused: NameTaken"),
+        Ending::NoName => line.text(b"refused: NoName"),
+        Ending::BookFull(rows) => put_named(line, b"refused: BookFull ", u64::from(rows)),
         Ending::BadLine(number) => put_named(line, b"refused: Script ", u64::from(number)),
         Ending::Refused(refusal) => put_refused(line, refusal),
         Ending::BoxFull => line.text(b"refused: BoxFull"),
@@ -102,6 +106,14 @@ fn put_ending(line: &mut OutputLine, ending: Ending)
             put_named(line, b"damaged area ", u64::from(area));
             line.text(b" slot ");
             put_damaged(line, slot, at);
+        }
+        Ending::DamagedBookTable { table, at } => {
+            line.text(b"damaged book table ");
+            put_damaged(line, table, at);
+        }
+        Ending::DamagedBookRow { row, at } => {
+            line.text(b"damaged book row ");
+            put_damaged(line, row, at);
         }
         Ending::Peer { kind, at } => put_peer(line, kind, at),
         Ending::NoMemory => line.text(b"no memory"),
