@@ -1,5 +1,6 @@
 """What a side, a relay and a sync answer, and which scripts are read, as docs/PROTOCOL.md says: another implementation, for
 `.ci/hostile-bytes`. Whether a tag is right isn't computed: a packet that was made is known with its text and its receipt."""
+import hmac
 import re
 
 from hostile.formats import (
@@ -117,6 +118,7 @@ def acts(side, words, given, said):
 
 
 BODY = 8192  # the most bytes of a frame's body
+TOKEN = 1 + 8 + 32  # the byte of a request with a token, its counter and its tag
 
 
 def frame(body):
@@ -141,10 +143,21 @@ def frames_of(stream):
         at += 2 + size
 
 
+def with_token(key, counter, inner):
+    """A request with a token under a key."""
+    head = counter.to_bytes(8, "big")
+    return b"\4" + head + hmac.digest(key, b"relay token" + head + inner, "sha256") + inner
+
+
 def replied(boxes, body):
     """The reply to a request, and what becomes of the boxes."""
     if body is None:
         return b"\x88\x01"
+    token = None
+    if body[0] == 4:
+        if body[TOKEN : TOKEN + 1] not in (b"\1", b"\2", b"\3"):
+            return b"\x88\x04"
+        token, body = (int.from_bytes(body[1:9], "big"), body[9:TOKEN]), body[TOKEN:]
     kind, rest = body[0], body[1:]
     if kind not in (1, 2, 3):
         return b"\x88\x02"
@@ -157,6 +170,8 @@ def replied(boxes, body):
     if name not in boxes:
         return b"\x86"
     box = boxes[name]
+    if box.guard and (denied := box.guard.denies(kind == 1, token, body)):
+        return b"\x89" + bytes([denied[0]]) + denied[1].to_bytes(8, "big")
     if kind == 1:
         if len(box.items) == ITEMS or box.last == 2**64 - 1:
             return b"\x85"

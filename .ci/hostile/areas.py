@@ -139,11 +139,13 @@ def side_of(image):
     return found_in(image, STATE_AREA, Side).record
 
 
-def laid(image, found, record, kept):
-    """A side's file at rest with another record in place of the one that is found, behind the other table where the old one is
-    to be kept until then: what changes of it stands in the lowest free pages. Else it stands in the first pages of the old."""
-    area, turns = STATE_AREA, turns_of(image, STATE_AREA)
+def laid(image, found, record, kept, area=STATE_AREA):
+    """A file at rest with another record in an area in place of the one that is found, behind the other table where the old one
+    is to be kept until then: what changes of it stands in the lowest free pages. Else it stands in the first pages of the old."""
+    turns = turns_of(image, area)
     slot, turn = (1 - found.slot, turns[found.slot] % 3 + 1) if kept else (found.slot, turns[found.slot])
+    if not found.record:
+        slot, turn = 0, 1
     free = (number for number in range(2, area.pages) if number not in found.numbers)
     pages, numbers = [record[at : at + PAGE].ljust(PAGE, b"\0") for at in range(0, len(record), PAGE)], []
     for at, page in enumerate(pages):

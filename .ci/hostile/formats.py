@@ -1,4 +1,5 @@
 """Packets and records, read as docs/PROTOCOL.md says: another implementation, for `.ci/hostile-bytes`."""
+import hmac
 import re
 
 AGREEMENT = 2197  # bytes of an agreement message over sntrup761
@@ -147,20 +148,60 @@ class Side:
         return f"{packet.epoch}.{packet.index}", fields.text[place : fields.at]
 
 
+class Guard:
+    """The keys of a box's owner and of who posts to it, and the last counters that were served for them."""
+
+    def __init__(self, owner, poster, last_owner=0, last_poster=0):
+        self.keys, self.last = {False: owner, True: poster}, {False: last_owner, True: last_poster}
+
+    def denies(self, posts, token, inner):
+        """The rule by which a request is denied, with the last counter that it tells; None where it is served, and counts."""
+        if token is None:
+            return 1, 0
+        counter, tag = token
+        said = b"relay token" + counter.to_bytes(8, "big") + inner
+        if hmac.digest(self.keys[posts], said, "sha256") != tag:
+            return 2, 0
+        if counter <= self.last[posts]:
+            return 3, self.last[posts]
+        self.last[posts] = counter
+        return None
+
+
 class Box:
-    """The record of a box at a relay."""
+    """The record of a box at a relay, in version 01 without a guard, or in version 02."""
 
     def __init__(self, record):
         fields = Fields(record)
-        fields.number(1, "", 1, 1)
+        self.version = fields.number(1, "", 1, 2)
         size = fields.number(1, "", 1, 40)
         self.name = fields.bytes(size, "", is_name)
+        self.guard = None
+        if self.version == 2 and fields.number(1, "", 0, 1):
+            self.guard = Guard(fields.bytes(32), fields.bytes(32), fields.number(8), fields.number(8))
         self.last = fields.number(8)
         self.items = []
         for _ in range(fields.number(1, "", 0, ITEMS)):
             number = fields.number(8, "", self.items[-1][0] + 1 if self.items else 1, self.last)
             self.items.append((number, fields.bytes(fields.number(2, "", 1, STORED_PACKET))))
         fields.end()
+
+    def text(self, version=2):
+        """Its record."""
+        text = bytes([version, len(self.name)]) + self.name
+        if version == 2 and self.guard:
+            text += b"\1" + b"".join(self.guard.keys.values())
+            text += b"".join(last.to_bytes(8, "big") for last in self.guard.last.values())
+        elif version == 2:
+            text += b"\0"
+        text += self.last.to_bytes(8, "big") + bytes([len(self.items)])
+        return text + b"".join(n.to_bytes(8, "big") + len(packet).to_bytes(2, "big") + packet for n, packet in self.items)
+
+
+def empty_box(name, keys=None):
+    box = Box(b"\1" + bytes([len(name)]) + name + bytes(9))
+    box.guard = Guard(*keys) if keys else None
+    return box
 
 
 def is_secret(secret):

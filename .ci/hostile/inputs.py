@@ -1,19 +1,20 @@
 """What is changed: files of a session of two sides and of relays, made by the program, with all packets, and scripts."""
 import random
 
-from hostile.answers import frame, named, receipt_of
+from hostile.answers import frame, named, receipt_of, with_token
 from hostile.changes import SCRIPTS
 from hostile.areas import STATE_AREA, aged, found_in, put_at, side_of
 from hostile.formats import ITEMS, NEWEST, RECEIPTS, STORED_PACKET, TEXT, TEXTS, Side
 from hostile.runs import Folder, expect, serve
 
 KEY = b"0123456789abcdef" * 4
+OWNER, POSTER = b"\x11" * 32, b"\x22" * 32  # the keys of the guarded box
 
 
 class Inputs:
     """A session of two sides, made by the program: state files of its steps, some with their record in an earlier version,
-    packets with their texts and receipts, files of relays. First's packets are plain and Second's padded; the last ones of
-    both have receipts."""
+    packets with their texts and receipts, files of relays, whose last box is guarded. First's packets are plain and Second's
+    padded; the last ones of both have receipts."""
 
     def __init__(self, work):
         self.said, self.stages, self.kept = {}, [], 1
@@ -42,7 +43,8 @@ class Inputs:
         self.take("second", "3.1")
         self.stages += [old for image in self.stages[::2] for version in range(1, NEWEST) if (old := aged(image, version))]
         self.packets = list(self.said)
-        self.boxes = [self.session.hex().encode() + b"-%d" % k for k in (1, 2)] + [b"a"]
+        self.boxes = [self.session.hex().encode() + b"-%d" % k for k in (1, 2)] + [b"a", b"g"]
+        self.keys = {b"g": (OWNER, POSTER)}
         draws = map(random.Random, range(5))
         self.relays = [self.relay_file(Folder(work, f"relay-{n}", "relay.state"), draw) for n, draw in enumerate(draws)]
         self.relays.append(self.full_relay_file(Folder(work, "relay-full", "relay.state")))
@@ -79,15 +81,28 @@ class Inputs:
         for position in positions:
             self.step(name, "take", given=packets[position].hex().encode())
 
+    def words(self):
+        """The boxes that a relay is started for."""
+        digits = {name: b"=" + b",".join(key.hex().encode() for key in pair) for name, pair in self.keys.items()}
+        return [name + digits.get(name, b"") for name in self.boxes]
+
+    def request(self, counter, kind, name, rest):
+        """A request, with a token where the box has a guard."""
+        inner = named(kind, name) + rest
+        return with_token(self.keys[name][kind == 1], counter, inner) if name in self.keys else inner
+
     def relay_file(self, folder, draw):
-        posts = [frame(named(1, draw.choice(self.boxes)) + draw.choice(self.packets)) for _ in range(draw.choice((3, 8, 60)))]
-        drops = [frame(named(3, box) + (1).to_bytes(8, "big")) for box in self.boxes]
-        serve(folder, None, self.boxes, b"".join(posts + drops))
+        posts = [
+            self.request(n, 1, draw.choice(self.boxes), draw.choice(self.packets))
+            for n in range(1, 1 + draw.choice((3, 8, 60)))
+        ]
+        drops = [self.request(3, 3, box, (1).to_bytes(8, "big")) for box in self.boxes]
+        serve(folder, None, self.words(), b"".join(map(frame, posts + drops)))
         return folder.image()
 
     def full_relay_file(self, folder):
         """The first box was full of the longest packets, and the first of them was dropped: so most pages are upper ones."""
         posts = [frame(named(1, self.boxes[0]) + bytes([n]) * STORED_PACKET) for n in range(1, ITEMS + 1)]
         drop = frame(named(3, self.boxes[0]) + (1).to_bytes(8, "big"))
-        serve(folder, None, self.boxes, b"".join(posts + [drop]))
+        serve(folder, None, self.words(), b"".join(posts + [drop]))
         return folder.image()

@@ -1,8 +1,8 @@
 """The kinds of cases. Each changes something, runs the program on it, compares with what is foretold, and answers the status."""
-from hostile.answers import Course, acts, bad_line, frame, frames_of, named, replied, shown
+from hostile.answers import Course, acts, bad_line, frame, frames_of, named, replied, shown, with_token
 from hostile.areas import HALF, STATE_AREA, STATE_SIZE, box_area, foretold, looked, put_at, renewed, side_of
 from hostile.changes import changed, changed_file, changed_script
-from hostile.formats import STORED_PACKET, Box, Side
+from hostile.formats import STORED_PACKET, Box, Side, empty_box
 from hostile.inputs import KEY
 from hostile.runs import expect, expect_talk, serve, sync
 
@@ -108,6 +108,10 @@ def try_state(draw, folder, inputs):
     return status
 
 
+def keys_of(box):
+    return tuple(box.guard.keys.values()) if box.guard else None
+
+
 def served(folder, inputs, image, stream):
     """A relay on a file, asked on one connection: the lines, the replies and the boxes."""
     boxes, tidy, wanted = {}, image, None
@@ -117,10 +121,11 @@ def served(folder, inputs, image, stream):
             wanted = 11, f"damaged area {k} {damage}"
             break
         tidy = after
-        boxes[box] = found.record or Box(b"\1" + bytes([len(box)]) + box + bytes(9))
-        if boxes[box].name != box and not wanted:
-            wanted = 3, f"refused: BoxName {k + 1}\n"
-    status, lines, came = folder.in_time(serve, folder, image, inputs.boxes, stream)
+        boxes[box] = found.record or empty_box(box, inputs.keys.get(box))
+        other = "BoxName" if boxes[box].name != box else "BoxKeys" if keys_of(boxes[box]) != inputs.keys.get(box) else None
+        if other and not wanted:
+            wanted = 3, f"refused: {other} {k + 1}\n"
+    status, lines, came = folder.in_time(serve, folder, image, inputs.words(), stream)
     left = folder.image()
     if wanted:
         expect("the relay", (status, lines), wanted)
@@ -133,7 +138,9 @@ def served(folder, inputs, image, stream):
     for k, box in enumerate(boxes.values()):
         found, rest, _ = foretold(left, box_area(k), Box)
         kept = found.record
-        expect("a box", (kept.name, kept.last, kept.items), (box.name, box.last, box.items))
+        for what in ("name", "last", "items"):
+            expect(f"a box, its {what}", getattr(kept, what), getattr(box, what))
+        expect("its guard", kept.guard and vars(kept.guard), box.guard and vars(box.guard))
         expect("it is at rest", rest == left, True)
     expect("what lies elsewhere", outside(left, len(boxes)) == outside(image or b"", len(boxes)), True)
     return status
@@ -155,7 +162,11 @@ def requests(draw, inputs):
         box = inputs.boxes[0] if many else draw.choice(inputs.boxes + [b"nobody"])
         kind = draw.choice((1, 1, 1, 1, 1, 1, 2, 3) if many else (1, 1, 2, 2, 3, 3))
         rest = {1: draw.choice(inputs.packets), 2: b"", 3: draw.randrange(1, 9).to_bytes(8, "big")}[kind]
-        stream.append(frame(named(kind, box) + rest))
+        request = named(kind, box) + rest
+        if box in inputs.keys or draw.random() < 0.2:
+            key = draw.choice((*inputs.keys[b"g"], inputs.keys[b"g"][kind == 1], bytes(32)))
+            request = with_token(key, draw.choice((1, len(stream), 60 + len(stream), 2**64 - 1)), request)
+        stream.append(frame(request))
     return stream
 
 
