@@ -1,15 +1,14 @@
 -- Words that are looked at one after the other.
-use Rattle.std.proofs.Common.{◌≡◌, inl, inr, ℕ, zero, suc, ◌+◌, ◌<◌, ◌≤◌, Bool, true, false, List, [], ◌∷◌, length, map, take, Some, None, get_or, length-take, ltb-true, refl, sym, ◌∙◌, ap, subst, arith}
-use Rattle.std.specs.Prelude.{slice_get, ◌&&◌, not, nat_lt}
-use Rattle.std.specs.Str.{bytes_eq}
+use Rattle.std.proofs.Common.{◌≡◌, inl, inr, ℕ, zero, suc, ◌+◌, ◌<◌, ◌≤◌, Bool, true, false, List, [], ◌∷◌, length, map, take, Option, Some, None, get_or, length-take, ltb-true, refl, sym, ◌∙◌, ap, subst, arith}
+use Rattle.std.specs.Prelude.{slice_get, ◌&&◌, not, nat_lt, if◌then◌else◌}
 use Rattle.std.specs.Borrow.{Bor}
 use Rattle.std.proofs.lemmas.Option.{slice_get-get_or, slice_get_within}
+use Rattle.relay_core.specs.declared.spec.BoxSpec.{BoxSpec}
 use Rattle.relay_core.specs.declared.limits.TheConstants.{RELAY_LIMIT}
-use Rattle.relay_wire.specs.Names.{is_name}
-use Rattle.std.specs.List.{list_any}
 use Rattle.std.proofs.lemmas.Bool.{cases_eq, and_parts}
 use Rattle.std.proofs.lemmas.List.{length-map, take-map}
-use Rattle.relay_command.specs.Names.{AreBoxNames, AreNames, IsFirstBad, is_box_name}
+use Rattle.relay_command.specs.BoxWords.{name_in, says_box, spec_in}
+use Rattle.relay_command.specs.Names.{AreBoxNames, AreNames, IsFirstBad, is_among, is_box_name}
 
 pub get-map : {A B : Type 0} (f : A → B) (xs : List A) (k : ℕ) (x : A) → slice_get xs k ≡ Some x → slice_get (map f xs) k ≡ Some (f x)
 get-map {A} f [] k x is = absurd (let e : None ≡ Some x = is in cc)
@@ -37,7 +36,7 @@ few_of false b c is = absurd (let e : false ≡ true = is in cc)
 
 pub has_room : (before : List (List ℕ)) (word : List ℕ) → is_box_name before word ≡ true → length before < RELAY_LIMIT
 unfolding is_box_name
-has_room before word is = ltb-true (length before) RELAY_LIMIT (few_of (is_name word) (not (list_any (λ other. bytes_eq other word) before)) (nat_lt (length before) RELAY_LIMIT) is)
+has_room before word is = ltb-true (length before) RELAY_LIMIT (few_of (says_box word) (not (is_among before (name_in word))) (nat_lt (length before) RELAY_LIMIT) is)
 
 -- ---- the word at a place, as code reads it
 
@@ -66,10 +65,22 @@ module _ (words : List (Bor (List ℕ))) (k : ℕ) (d : Bor (List ℕ)) (is : Bo
 pub all_named : (words : List (Bor (List ℕ))) (k : ℕ) → length words ≤ k → AreBoxNames k (texts words) → AreNames (texts words)
 all_named words k most so j word here = so j word (let i = slice_get_within (texts words) j word here in omega (arith, i, most, length-map {A = Bor (List ℕ)} words (λ w. w.now))) here
 
-lawful_of : (before : List (List ℕ)) (word : List ℕ) → is_box_name before word ≡ true → is_name word ≡ true
+says_of : (before : List (List ℕ)) (word : List ℕ) → is_box_name before word ≡ true → says_box word ≡ true
 unfolding is_box_name
-lawful_of before word is = (and_parts (is_name word) (not (list_any (λ other. bytes_eq other word) before) && nat_lt (length before) RELAY_LIMIT) is).0
+says_of before word is = (and_parts (says_box word) (not (is_among before (name_in word)) && nat_lt (length before) RELAY_LIMIT) is).0
 
-pub is_word : (words : List (Bor (List ℕ))) (k : ℕ) (d : Bor (List ℕ)) → k < length words → AreNames (texts words) → is_name (get_or words k d).now ≡ true
-is_word words k d inside all =
-    lawful_of (take k (texts words)) (get_or words k d).now (all k (get_or words k d).now (get-map (λ w. w.now) words k (get_or words k d) (slice_get-get_or words k d inside)))
+pub word_says : (words : List (Bor (List ℕ))) (k : ℕ) (d : Bor (List ℕ)) → k < length words → AreNames (texts words) → says_box (get_or words k d).now ≡ true
+word_says words k d inside all =
+    says_of (take k (texts words)) (get_or words k d).now (all k (get_or words k d).now (get-map (λ w. w.now) words k (get_or words k d) (slice_get-get_or words k d inside)))
+
+-- such a word isn't without a box
+pub none_said : (word seen : List ℕ) (read : Option BoxSpec) → read ≡ (if says_box seen then Some (spec_in seen) else None)
+    → read ≡ None → seen ≡ word → says_box word ≡ true → ⊥
+none_said word seen read is none same says = by_said (says_box seen) (ap says_box same ∙ says) (sym is ∙ none)
+  where
+    said : Bool → Option BoxSpec
+    said b = if b then Some (spec_in seen) else None
+
+    by_said : (b : Bool) → b ≡ true → said b ≡ None → ⊥
+    by_said true p q = let e : (let o : Option BoxSpec = Some (spec_in seen) in o) ≡ None = q in cc
+    by_said false p q = let e : false ≡ true = p in cc

@@ -1,3 +1,4 @@
+pub mod BoxWords
 pub mod Names
 pub mod Connections
 pub mod InTurn

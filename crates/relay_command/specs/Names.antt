@@ -1,22 +1,24 @@
--- The names that a relay is started with.
+-- The words that a relay is started with.
 use Rattle.std.specs.Prelude.{◌≡◌, ◌<◌, ◌+◌, ◌&&◌, ℕ, Bool, true, false, not, nat_lt, List, length, map, take, slice_get, Some}
 use Rattle.std.specs.List.{list_any}
 use Rattle.std.specs.Str.{bytes_eq}
-use Rattle.relay_core.specs.Specs.{bare_spec}
 use Rattle.relay_core.specs.declared.limits.TheConstants.{RELAY_LIMIT}
 use Rattle.relay_core.specs.declared.spec.BoxSpec.{BoxSpec}
-use Rattle.relay_wire.specs.Names.{is_name}
+use Rattle.relay_command.specs.BoxWords.{name_in, says_box, spec_in}
 
--- a word names a box after these: it is a lawful name, none of them, and at most the last that a
--- relay has room for
+-- some of these words has this name
+abbrev pub is_among : List (List ℕ) → List ℕ → Bool
+is_among words name = list_any (λ other. bytes_eq (name_in other) name) words
+
+-- a word names a box after these: it says what the box is, has none of their names, and is at most
+-- the last that a relay has room for
 unfoldable pub is_box_name : List (List ℕ) → List ℕ → Bool
 is_box_name before word =
-    is_name word
-    && (not (list_any (λ other. bytes_eq other word) before) && nat_lt (length before) RELAY_LIMIT)
+    says_box word && (not (is_among before (name_in word)) && nat_lt (length before) RELAY_LIMIT)
 
--- what a box is made by that a word names
+-- what the boxes are made by that the words name
 abbrev pub specs_of : List (List ℕ) → List BoxSpec
-specs_of words = map bare_spec words
+specs_of words = map spec_in words
 
 -- the first n words name boxes
 abbrev pub AreBoxNames : ℕ → List (List ℕ) → Type 0

@@ -1,33 +1,31 @@
-//! The names of a relay's boxes.
+//! The words that name a relay's boxes.
 
 ghost use Rattle.std.specs.Prelude.{◌≡◌, ◌≤◌, length, map, IfErr, IfOk, OnOk};
-ghost use Rattle.std.specs.List.{list_any};
-ghost use Rattle.std.specs.Str.{bytes_eq};
 ghost use Rattle.relay_core.specs.declared.limits.TheConstants.{RELAY_LIMIT};
-ghost use Rattle.relay_wire.specs.Names.{is_name};
-ghost use Rattle.relay_command.specs.Names.{AreNames, IsFirstBad, is_box_name, specs_of};
+ghost use Rattle.relay_command.specs.BoxWords.{says_box};
+ghost use Rattle.relay_command.specs.Names.{AreNames, IsFirstBad, is_among, is_box_name, specs_of};
 
+use crate::box_words::{name_in, spec_in};
 use relay_core::{BoxSpec, RELAY_LIMIT};
-use relay_wire::Name;
 use std::alloc::{AllocError, Global};
 
-/// Whether a word is one of these.
-fn is_among(words: &[&str], word: &str) -> bool
-    ensures { result ≡ list_any (λ other. bytes_eq other word.now) (map (λ w. w.now) words.now) }
+/// Whether one of these words has this name.
+fn is_among(words: &[&str], name: &[u8]) -> bool
+    ensures { result ≡ is_among (map (λ w. w.now) words.now) name.now }
 {
     'words: for other in words {
-        if other.as_bytes() == word.as_bytes() {
+        if name_in(other.as_bytes()) == name {
             return true;
         }
     }
     false
 }
 
-/// Whether a word is a name at all.
-fn is_lawful(word: &str) -> bool
-    ensures { result ≡ is_name word.now }
+/// Whether a word says what a box is.
+fn says_box(word: &str) -> bool
+    ensures { result ≡ says_box word.now }
 {
-    Name::new(word.as_bytes()).is_some()
+    spec_in(word.as_bytes()).is_some()
 }
 
 /// Whether a word names a box after these.
@@ -35,7 +33,7 @@ fn is_lawful(word: &str) -> bool
 fn is_box_name(before: &[&str], word: &str) -> bool
     ensures { result ≡ is_box_name (map (λ w. w.now) before.now) word.now }
 {
-    is_lawful(word) && !is_among(before, word) && before.len() < RELAY_LIMIT
+    says_box(word) && !is_among(before, name_in(word.as_bytes())) && before.len() < RELAY_LIMIT
 }
 
 /// Whether each word names a box; if not, the number of the first that doesn't, from 1.
@@ -52,15 +50,15 @@ pub(crate) fn check_names(words: &[&str]) -> Result<(), u32>
     Ok(())
 }
 
-/// What the boxes of these names are made by.
+/// What the boxes are made by that these words name.
 pub(crate) fn specs_of(alloc: Global, words: &[&str]) -> Result<Vec<BoxSpec>, AllocError>
     requires { AreNames (map (λ w. w.now) words.now) }
     ensures { IfOk result (λ specs. specs.items ≡ specs_of (map (λ w. w.now) words.now)) }
 {
     let mut specs = Vec::new(alloc);
     'words: for word in words {
-        match Name::new(word.as_bytes()) {
-            Some(name) => specs.push(BoxSpec { name, keys: None })?,
+        match spec_in(word.as_bytes()) {
+            Some(spec) => specs.push(spec)?,
             None => unreachable!(),
         }
     }

@@ -58,14 +58,17 @@ fn look<A: Disk>(alloc: Global, boxes: &[&str], disk: &mut A) -> Result<Looked, 
 /// it listens, and for the I-th connection `connection I ended N`, with N the number of its
 /// replies, or `connection I failed`, where receiving or sending failed.
 ///
-/// The words are looked at first: `BadBox K` exactly where the K-th, from 1, is the first that is
-/// no lawful name, equals one before it, or is the 17th. Then the areas are looked at: want of
-/// memory, `DiskFault`, `DamagedArea`, `BoxName` and `BoxKeys` as
-/// `relay_server::Server::look` tells them, with boxes counted from 1. Only then is the door touched: it listens at the port. `LinkFault`
-/// where it couldn't, and then no record was put, and no byte written where the areas were read at
-/// rest or as zeros. Once it listens, each area without a record gets an empty box's, and each
-/// connection is accepted, served and ended, also where a call on it or on the disk failed.
-/// `LinkFault` where accepting failed. A call on the disk that failed ends the command with
+/// A word is the name of a box, or the name, `=`, and the keys of its guard: the owner's, a comma
+/// and the poster's, each as 64 hex digits of either case.
+///
+/// The words are looked at first: `BadBox K` exactly where the K-th, from 1, is the first that says
+/// no box, has the name of one before it, or is the 17th. Then the areas are looked at: want of
+/// memory, `DiskFault`, `DamagedArea`, `BoxName` and `BoxKeys` as `relay_server::Server::look`
+/// tells them, with boxes counted from 1. Only then is the door touched: it listens at the port.
+/// `LinkFault` where it couldn't, and then no record was put, and no byte written where the areas
+/// were read at rest or as zeros. Once it listens, each area without a record gets an empty box's,
+/// and each connection is accepted, served and ended, also where a call on it or on the disk
+/// failed. `LinkFault` where accepting failed. A call on the disk that failed ends the command with
 /// `DiskFault`, and a line that couldn't be written ends it with status 5.
 #[inline(never)]
 pub fn relay<A: Disk, L: Door, O: Sink>(

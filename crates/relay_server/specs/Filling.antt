@@ -89,7 +89,8 @@ pub record IsFilling (boxes : List Box) (start : DiskState) (c : List ℕ) : Typ
 -- It says whether the box at a place was loaded from its store's record, and else how that differs.
 abbrev pub LoadsSo : Loaded → ℕ → List Box → List Box → Option (List ℕ) → Type 0
 LoadsSo Taken place old new text = IsLoadedAt place old new text
-LoadsSo how place old new text = (was : Box) → slice_get old place ≡ Some was → IsOthers how was text
+LoadsSo how place old new text =
+    (was : Box) → slice_get old place ≡ Some was → IsOthers how was text
 
 pub record LoadsAt (place : ℕ) (old new : List Box) (text : Option (List ℕ)) (result : Loaded)
     : Type 0 where

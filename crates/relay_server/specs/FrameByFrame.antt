@@ -1,7 +1,7 @@
--- A connection frame by frame: what stands on the disk once each reply is sent, and what a crash may
--- leave until the next one is. The disks and pipes between two frames are values of the types that
--- the caller chose: what is claimed for all such types is claimed for those whose values are just the
--- states that a disk and a pipe went through.
+-- A connection frame by frame: what stands on the disk once each reply is sent, and what a crash
+-- may leave until the next one is. The disks and pipes between two frames are values of the types
+-- that the caller chose: what is claimed for all such types is claimed for those whose values are
+-- just the states that a disk and a pipe went through.
 use Rattle.std.specs.Prelude.{◌≡◌, ◌⊎◌, ℕ, Bool, true, false, List, [], ◌∷◌, ◌++◌, filter, Option, Some, None, is_some, Result}
 use Rattle.dr_disk.specs.State.{DiskState}
 use Rattle.dr_disk.specs.Spans.{Span}

@@ -1,5 +1,5 @@
--- Connections one after the other, whether they ended or a crash cut them, and the counters that were
--- answered as served over them.
+-- Connections one after the other, whether they ended or a crash cut them, and the counters that
+-- were answered as served over them.
 use Rattle.std.specs.Prelude.{◌≡◌, ℕ, List, [], ◌∷◌, ◌++◌, Option, Some, None}
 use Rattle.dr_disk.specs.State.{DiskState}
 use Rattle.dr_ports.specs.Wires.{Port}

@@ -15,12 +15,14 @@ abbrev pub IsUnsettled : ServerNow → DiskState → Type 0
 IsUnsettled server disk = AreFilled 0 server.boxes server.stores disk
 
 -- A server has the boxes that were read, and its areas are not settled.
-pub record IsLooked (specs : List BoxSpec) (server : ServerNow) (start now : DiskState) : Type 0 where
+pub record IsLooked (specs : List BoxSpec) (server : ServerNow) (start now : DiskState)
+    : Type 0 where
   pub unsettled : IsUnsettled server now
   pub boxes : AreBoxesRead specs server.boxes start
   pub quiet : IsQuiet start now
 
--- A look at the areas of the boxes of these specs: what it gives, and what it does meanwhile and in each ending.
+-- A look at the areas of the boxes of these specs: what it gives, and what it does meanwhile and in
+-- each ending.
 pub record LooksAt (specs : List BoxSpec) (start now : DiskState)
     (result : Result ServerNow ServerOpenError) : Type 0 where
   pub looked : IfOk result (λ server. IsLooked specs server start now)

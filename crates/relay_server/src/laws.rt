@@ -1,6 +1,6 @@
-//! The laws of what a crash leaves, of opening after it, of the counters that guarded boxes serve, of
-//! disks of lower halves alone, and of this crate's limits. The functions have no code: a caller that
-//! needs a fact calls them.
+//! The laws of what a crash leaves, of opening after it, of the counters that guarded boxes serve,
+//! of disks of lower halves alone, and of this crate's limits. The functions have no code: a caller
+//! that needs a fact calls them.
 
 ghost use Rattle.std.specs.Prelude.{◌≡◌, List, Option, Result, length, slice_get, ℕ};
 ghost use Rattle.dr_disk.specs.State.{Always};
@@ -28,8 +28,8 @@ use slot_store::{resting, widening};
 /// own requests in a beginning of the frames that came.
 ///
 /// At a moment at which the replies to the first n frames were sent whole, and no other, this is
-/// the box after its own accepted requests among these n frames, or among the first n + 1. A guarded
-/// box has accepted each request that it served, whatever the reply.
+/// the box after its own accepted requests among these n frames, or among the first n + 1. A
+/// guarded box has accepted each request that it served, whatever the reply.
 pub fn crashes<D: Disk, P: Pipe>()
     ensures whenever { (boxes : List Box) (got c : List ℕ) → Reached boxes got c
         → StandsForPart boxes got c }
@@ -71,12 +71,12 @@ pub fn opens_again<D: Disk>(before: &D, after: &D)
 }
 
 /// Of the requests that a guarded box answered as served under one of its keys, all counters differ
-/// and rise: over connections one after the other, from above the last one that its guard had to the
-/// one that it has then.
+/// and rise: over connections one after the other, from above the last one that its guard had to
+/// the one that it has then.
 ///
 /// A connection leaves the boxes past the frames whose replies were sent whole, or past one frame
-/// more. That is so where it ended, and where a crash cut it: what that leaves stands for such boxes,
-/// and with these a server is opened again.
+/// more. That is so where it ended, and where a crash cut it: what that leaves stands for such
+/// boxes, and with these a server is opened again.
 pub fn counters_rise<D: Disk, P: Pipe>()
     ensures rise { (role : Role) (name : List ℕ) (boxes : List Box) (sessions : List Session)
         → RiseIn role (box_of name boxes) (box_of name (boxes_past_all boxes sessions))

@@ -77,9 +77,9 @@ fn frame_room(alloc: Global) -> Result<Vec<u8>, AllocError>
 
 impl Server {
     /// Looks at the boxes of these specs, 1 to 16 and no two of one name: each lives in the area of
-    /// its place, which has a lower and an upper half. The areas are opened in order, and then their
-    /// records are loaded. No record is put, and where all areas are read at rest, or as zeros, no
-    /// byte is written.
+    /// its place, which has a lower and an upper half. The areas are opened in order, and then
+    /// their records are loaded. No record is put, and where all areas are read at rest, or as
+    /// zeros, no byte is written.
     ///
     /// `Damaged` exactly where an area that was read is damaged. `BoxName` and `BoxKeys` exactly
     /// where none is, and one has a record of another name, or of the name with other keys: the

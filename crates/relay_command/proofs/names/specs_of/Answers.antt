@@ -1,9 +1,8 @@
-use Rattle.std.proofs.Common.{◌≡◌, true, false, [], ap, ◌∙◌}
-use Rattle.relay_wire.specs.Names.{is_name}
-use Rattle.relay_command.proofs.NamesLemmas.{is_word}
+use Rattle.std.proofs.Common.{[]}
+use Rattle.relay_command.proofs.NamesLemmas.{none_said, word_says}
 use Rattle.relay_command.proofs.names.specs_of.Goals as goal
 
 pub unreachable-requires : goal.unreachable-requires
 unreachable-requires c =
-    let e : false ≡ true = c.in-None.ensures.variant ∙ ap is_name c.as_bytes.ensures.value ∙ is_word c.args.words.now c.words.word-index (record { ref_ptr = (0, 0); now = [] }) c.words-test.true c.requires in
-    absurd (let f : false ≡ true = e in cc)
+    none_said _ c.as_bytes.result.now c.spec_in.result c.spec_in.ensures c.in-None.is c.as_bytes.ensures.value
+    (word_says c.args.words.now c.words.word-index (record { ref_ptr = (0, 0); now = [] }) c.words-test.true c.requires)
