@@ -193,8 +193,9 @@ def replied(boxes, body):
 class Course:
     """A sync of a side over the bytes that a relay sends: its requests, its lines and its status."""
 
-    SIZES = {0x81: (8, 8), 0x82: (9, 8 + STORED_PACKET), 0x87: (8, 8), 0x88: (1, 1)}
+    SIZES = {0x81: (8, 8), 0x82: (9, 8 + STORED_PACKET), 0x87: (8, 8), 0x88: (1, 1), 0x89: (9, 9)}
     SIZES |= dict.fromkeys((0x83, 0x84, 0x85, 0x86), (0, 0))
+    REASONS = {0x88: (b"\1", b"\2", b"\3", b"\4"), 0x89: (b"\1", b"\2", b"\3")}
 
     def __init__(self, side, replies, said):
         self.side, self.replies, self.said = side, replies, said
@@ -221,7 +222,7 @@ class Course:
         if kind not in self.SIZES:
             raise Fault(12, "peer: Kind at 2")
         least, most = self.SIZES[kind]
-        if not least <= len(rest) <= most or kind == 0x88 and rest[0] not in (1, 2, 3, 4):
+        if not least <= len(rest) <= most or kind in self.REASONS and rest[:1] not in self.REASONS[kind]:
             raise Fault(12, "peer: Size at 3")
         if kind == 0x86:
             raise Fault(3, "refused: Unknown")

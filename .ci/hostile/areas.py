@@ -39,7 +39,10 @@ def box_area(k):
 
 
 def put_at(image, place, text):
-    """A file with bytes written over it, which has to reach there."""
+    """A file with bytes written over it, which has to reach there: another one, but for a `bytearray`."""
+    if isinstance(image, bytearray):
+        image[place : place + len(text)] = text
+        return image
     return image[:place] + text + image[place + len(text) :]
 
 

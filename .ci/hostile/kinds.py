@@ -202,7 +202,7 @@ def try_replies(draw, folder, inputs):
     replies.append(frame(b"\x83"))
     replies += [frame(b"\x81" + number.to_bytes(8, "big")) for number in range(1, len(side.packets) + 1)]
     if draw.random() < 0.3:
-        other = bytes([draw.randrange(0x80, 0x8A)]) + draw.randbytes(draw.choice((0, 1, 8)))
+        other = bytes([draw.randrange(0x80, 0x8B)]) + draw.choice((b"", b"\2")) + draw.randbytes(draw.choice((0, 1, 8)))
         replies.insert(draw.randrange(len(replies) + 1), frame(other))
     stream = b"".join(replies)
     if draw.random() < 0.9:
