@@ -84,8 +84,14 @@ impl<K: Kem> Duet<K> {
             Err(error) => return Err(error),
         };
         let names = first.names();
-        let own = BoxSpec { name: names.own, keys: None };
-        let peers = BoxSpec { name: names.peers, keys: None };
+        let own = BoxSpec {
+            name: names.own,
+            keys: None,
+        };
+        let peers = BoxSpec {
+            name: names.peers,
+            keys: None,
+        };
         let Ok(relay) = RelayLink::new(alloc, &[own, peers]) else {
             return Err(BeginError::Memory);
         };
