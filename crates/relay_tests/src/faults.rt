@@ -1,4 +1,4 @@
-//! The command's faults, each once, and names that it refuses.
+//! The command's faults, each once, and words that it refuses.
 
 use crate::command::{REQUESTS, blank, door, ends};
 use crate::server::set_gate;
@@ -24,17 +24,33 @@ const MANY: [&str; 17] = [
     "a", "b", "c", "d", "e", "f", "g", "h", "i", "j", "k", "l", "m", "n", "o", "p", "q",
 ];
 
-/// Names, the status, and the lines: the first ones are taken, and the others refused on that disk.
-const NAMES: [(&[&str], u8, &[u8]); 6] = [
+/// The box `b` with two keys of 64 digits, and with a digit less.
+const GUARDED: &str = "b=\
+    0000000000000000000000000000000000000000000000000000000000000000,\
+    aaaaaaaaaaaaaaaaaaaaaaaaaaaaaaaaAAAAAAAAAAAAAAAAAAAAAAAAAAAAAAAA";
+
+const SHORT: &str = "b=\
+    0000000000000000000000000000000000000000000000000000000000000000,\
+    aaaaaaaaaaaaaaaaaaaaaaaaaaaaaaaaAAAAAAAAAAAAAAAAAAAAAAAAAAAAAAA";
+
+/// Words, the status, and the lines: the first ones are taken, and the others refused on that disk.
+const NAMES: [(&[&str], u8, &[u8]); 13] = [
     (&["b"], 0, b"relay 4000\n"),
     (&["a"], 3, b"refused: BoxName 1\n"),
+    (&[GUARDED], 3, b"refused: BoxKeys 1\n"),
+    (&[SHORT], 3, b"refused: BadBox 1\n"),
+    (&["b="], 3, b"refused: BadBox 1\n"),
+    (&["b=,"], 3, b"refused: BadBox 1\n"),
+    (&["=,"], 3, b"refused: BadBox 1\n"),
+    (&["b", GUARDED], 3, b"refused: BadBox 2\n"),
+    (&[GUARDED, "b"], 3, b"refused: BadBox 2\n"),
     (&["b", "b"], 3, b"refused: BadBox 2\n"),
     (&["b", "c", "D"], 3, b"refused: BadBox 3\n"),
     (&[""], 3, b"refused: BadBox 1\n"),
     (&MANY, 3, b"refused: BadBox 17\n"),
 ];
 
-/// Whether each row of names ends so.
+/// Whether each row of words ends so.
 fn refuse(alloc: Global, disk: &mut MemoryDisk) -> bool {
     for (boxes, status, lines) in NAMES {
         if !ends_unasked(alloc, disk, boxes, status, lines) {

@@ -10,7 +10,7 @@ use relay_wire::{
 use std::alloc::Global;
 
 /// The bytes of a frame, and the kind of what is wrong, 0 where it is a request.
-const REQUESTS: [(&[u8], u8); 14] = [
+const REQUESTS: [(&[u8], u8); 15] = [
     (b"\x00\x03\x02\x01a", 0),
     (b"\x00\x04\x01\x01a\x07", 0),
     (b"\x00\x0b\x03\x01a\x00\x00\x00\x00\x00\x00\x00\x01", 0),
@@ -25,10 +25,14 @@ const REQUESTS: [(&[u8], u8); 14] = [
     (b"\x00\x03\x01\x01a", 4),
     (b"\x00\x04\x02\x01a\x00", 4),
     (b"\x00\x0a\x03\x01a\x00\x00\x00\x00\x00\x00\x01", 4),
+    (
+        b"\x00\x2c\x04\0\0\0\0\0\0\0\x09wwwwwwwwwwwwwwwwwwwwwwwwwwwwwwww\x02\x01a",
+        0,
+    ),
 ];
 
 /// The bytes of a frame, and why it is no reply.
-const REPLIES: [(&[u8], Option<BadReply>); 13] = [
+const REPLIES: [(&[u8], Option<BadReply>); 16] = [
     (b"\x00\x09\x81\x00\x00\x00\x00\x00\x00\x00\x01", None),
     (b"\x00\x0a\x82\x00\x00\x00\x00\x00\x00\x00\x01\x07", None),
     (b"\x00\x01\x83", None),
@@ -37,11 +41,14 @@ const REPLIES: [(&[u8], Option<BadReply>); 13] = [
     (b"\x00\x01\x86", None),
     (b"\x00\x09\x87\x00\x00\x00\x00\x00\x00\x00\x01", None),
     (b"\x00\x02\x88\x02", None),
+    (b"\x00\x0a\x89\x03\x00\x00\x00\x00\x00\x00\x00\x07", None),
     (b"\xff\xff", Some(BadReply::Frame)),
     (b"\x00\x01\x55", Some(BadReply::Kind)),
     (b"\x00\x02\x83\x00", Some(BadReply::Size)),
     (b"\x00\x01\x82", Some(BadReply::Size)),
     (b"\x00\x02\x88\x05", Some(BadReply::Size)),
+    (b"\x00\x0a\x89\0\0\0\0\0\0\0\0\0", Some(BadReply::Size)),
+    (b"\x00\x0a\x89\x04\0\0\0\0\0\0\0\0", Some(BadReply::Size)),
 ];
 
 /// Feeds these bytes in two pieces to a reader that is cleared first.

@@ -14,7 +14,17 @@ fn linked(alloc: Global) -> Option<RelayLink> {
     let Some(b) = Name::new(b"b") else {
         return None;
     };
-    match RelayLink::new(alloc, &[BoxSpec { name: a }, BoxSpec { name: b }]) {
+    let specs = [
+        BoxSpec {
+            name: a,
+            keys: None,
+        },
+        BoxSpec {
+            name: b,
+            keys: None,
+        },
+    ];
+    match RelayLink::new(alloc, &specs) {
         Ok(link) => Some(link),
         Err(_) => None,
     }

@@ -67,7 +67,7 @@ fn relay_of(alloc: Global) -> Option<Relay> {
     let Some(name) = Name::new(b"a") else {
         return None;
     };
-    match Relay::new(alloc, &[BoxSpec { name }]) {
+    match Relay::new(alloc, &[BoxSpec { name, keys: None }]) {
         Ok(relay) => Some(relay),
         Err(_) => None,
     }

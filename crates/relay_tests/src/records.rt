@@ -8,13 +8,15 @@ use relay_core::{BoxSpec, Loaded, RECORD_LIMIT, Relay, check_box};
 use relay_wire::Name;
 use std::alloc::Global;
 
-/// The record of the box `a` with the packet 07, the first that was posted, and a byte more.
+/// The record of the box `a` with the packet 07, the first that was posted, in the first version,
+/// and a byte more.
 const RECORD: [u8; 24] = *b"\x01\x01a\0\0\0\0\0\0\0\x01\x01\0\0\0\0\0\0\0\x01\0\x01\x07\0";
 
 /// The length of what is looked at, a place, the byte that is put there, and the place of the
 /// fault.
-const FAULTS: [(usize, usize, u8, u32); 12] = [
-    (23, 0, 2, 0),
+const FAULTS: [(usize, usize, u8, u32); 13] = [
+    (23, 0, 2, 13),
+    (23, 0, 3, 0),
     (23, 1, 0, 1),
     (23, 1, 41, 1),
     (23, 2, b'A', 2),
@@ -71,7 +73,17 @@ fn loads(alloc: Global, text: &[u8], out: &mut [u8]) -> Option<(Loaded, Loaded, 
     let Some(b) = Name::new(b"b") else {
         return None;
     };
-    let Ok(mut relay) = Relay::new(alloc, &[BoxSpec { name: b }, BoxSpec { name: a }]) else {
+    let specs = [
+        BoxSpec {
+            name: b,
+            keys: None,
+        },
+        BoxSpec {
+            name: a,
+            keys: None,
+        },
+    ];
+    let Ok(mut relay) = Relay::new(alloc, &specs) else {
         return None;
     };
     let Ok(()) = check_box(text) else {
@@ -82,14 +94,17 @@ fn loads(alloc: Global, text: &[u8], out: &mut [u8]) -> Option<(Loaded, Loaded, 
     Some((first, second, len))
 }
 
-/// Whether the record is loaded into the box `a` alone, and written again.
+/// The same box in the version that is written, which says that it has no guard.
+const WRITTEN: &[u8] = b"\x02\x01a\0\0\0\0\0\0\0\0\x01\x01\0\0\0\0\0\0\0\x01\0\x01\x07";
+
+/// Whether the record is loaded into the box `a` alone, and written anew.
 fn is_loaded(alloc: Global) -> bool {
     let Ok(mut out) = vec![in alloc; 0; RECORD_LIMIT] else {
         return false;
     };
     let (record, _) = RECORD.split_at(23);
     match loads(alloc, record, out.as_mut_slice()) {
-        Some((Loaded::OtherName, Loaded::Taken, 23)) => out.get(..23) == Some(record),
+        Some((Loaded::OtherName, Loaded::Taken, 24)) => out.get(..24) == Some(WRITTEN),
         _ => false,
     }
 }

@@ -50,7 +50,7 @@ pub fn open<D: Disk>(alloc: Global, disk: &mut D, name: &[u8]) -> Result<Server,
     if disk.size() < SIZE {
         return Err(ServerOpenError::Memory);
     }
-    Server::open(alloc, disk, &[BoxSpec { name }])
+    Server::open(alloc, disk, &[BoxSpec { name, keys: None }])
 }
 
 /// Serves a connection. Answers how many replies it had, or how it broke off.
