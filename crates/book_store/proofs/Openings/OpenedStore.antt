@@ -17,7 +17,7 @@ use Rattle.book_store.proofs.Openings.BookRead.{rows_reading}
 use Rattle.book_store.proofs.Openings.Likes.{as_read, like_before}
 use Rattle.book_store.proofs.Openings.SameRest.{is_same}
 use Rattle.book_store.proofs.Openings.StoreRead.{clear_drops}
-use Rattle.book_store.proofs.Openings.Wiping.{on_ok}
+use Rattle.std.proofs.lemmas.Result.{on_ok_weaker}
 use Rattle.book_store.specs.AtRest.{BookMark, IsBookAtRest}
 use Rattle.book_store.specs.Counts.{settlings}
 use Rattle.book_store.specs.Layout.{book_layout}
@@ -53,7 +53,7 @@ module _ {R T U : Type 0} (fault_at : List ℕ → Option ℕ) (has_read : R →
       settles.any_moment)
 
   opened_rests : OnOk r (Always (RestsAsRead start (store_with desk rows)) now)
-  opened_rests = on_ok r
+  opened_rests = on_ok_weaker r
       (λ rests c left. let is = rests c left in (is.0, like_before desk.rows start b same c is.1))
       settles.done
 

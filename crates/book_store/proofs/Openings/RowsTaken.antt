@@ -34,17 +34,6 @@ before_at {A = A} xs ys x d k r is long lt = ap (λ (l : List A). get_or l r d) 
 one_longer : {A : Type 0} (xs ys : List A) (x : A) (k : ℕ) → ys ≡ xs ++ x ∷ [] → length xs ≡ k → length ys ≡ k + 1
 one_longer {A = A} xs ys x k is long = ap (λ (l : List A). length l) is ∙ omega (arith, length-append xs (x ∷ []), long)
 
--- none yet
-pub none_held : {R : Type 0} (fault_at : List ℕ → Option ℕ) (has_read : R → List ℕ → Type 0) (body : List ℕ)
-    (rows : List HeldRow) (readers : List (Option R)) (disk : DiskState) → rows ≡ [] → readers ≡ []
-    → AreRowsHeld fault_at has_read 0 body rows readers disk
-none_held {R = R} fault_at has_read body rows readers disk none no_readers = record {
-  all = ap (λ (l : List HeldRow). length l) none;
-  readers_all = ap (λ (l : List (Option R)). length l) no_readers;
-  each = λ r d lt. absurd (omega arith);
-  read = λ r d lt. absurd (omega arith);
-}
-
 -- where a read gives the same
 pub held_before : (fault_at : List ℕ → Option ℕ) (r : ℕ) (row : List ℕ) (held : HeldRow) (start now : DiskState)
     → now.seen ≡ start.seen → IsRowHeld fault_at r row held now → IsRowHeld fault_at r row held start

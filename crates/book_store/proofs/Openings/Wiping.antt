@@ -1,5 +1,5 @@
 -- What is asked before a table is wiped.
-use Rattle.std.proofs.Common.{◌≡◌, ◌≢◌, ℕ, ◌+◌, ◌-◌, ◌^◌, ◌<◌, Bool, true, false, List, length, take, replicate, Result, Ok, Err, OnOk, ⊎_elim, ◌∙◌, ap, arith}
+use Rattle.std.proofs.Common.{◌≡◌, ◌≢◌, ℕ, ◌+◌, ◌-◌, ◌^◌, ◌<◌, Bool, true, false, List, length, take, replicate, ⊎_elim, ◌∙◌, ap, arith}
 use Rattle.std.proofs.lemmas.Bool.{cases_Bool}
 use Rattle.std.proofs.lemmas.List.{take-replicate}
 use Rattle.dr_base.specs.declared.limits.TheConstants.{PAGE}
@@ -14,10 +14,6 @@ use Rattle.book_store.specs.Layout.{book_layout}
 use Rattle.book_store.specs.Rows.{book_names}
 use Rattle.book_store.specs.Settling.{IsSettledBook}
 use Rattle.book_store.specs.declared.layout.TheConstants.{BOOK_TABLE}
-
-pub on_ok : {T E : Type 0} {A B : Type 0} (r : Result T E) → (A → B) → OnOk r A → OnOk r B
-on_ok (Ok x) to a = to a
-on_ok (Err e) to a = a
 
 -- with zeros
 pub zeros_for : (rows : ℕ) (zeros page : List ℕ) → zeros ≡ replicate (BOOK_TABLE - 1) 0 → page ≡ take PAGE zeros

@@ -13,7 +13,7 @@ use Rattle.book_store.proofs.Openings.Likes.{both_moments, left_like, like_shots
 use Rattle.book_store.proofs.Openings.EmptySettled.{empty_blank, empty_body, empty_closed, empty_gate, later_closed, twice_rests}
 use Rattle.book_store.proofs.Openings.NothingOpen.{none_counts, none_mute, none_unnamed, second_read}
 use Rattle.book_store.proofs.Openings.PageMarks.{no_marks}
-use Rattle.book_store.proofs.Openings.Wiping.{on_ok}
+use Rattle.std.proofs.lemmas.Result.{on_ok_weaker}
 use Rattle.book_store.specs.declared.layout.TheConstants.{BOOK_ROWS, ROW_PAGES}
 use Rattle.book_store.proofs.settling.settle_empty.Goals as goal
 
@@ -97,7 +97,7 @@ returns g c =
     let span = both_moments store.rows start a b lawful (left_like store.rows start settled a first) first next in
     record {
       any_moment = span;
-      done = on_ok c.wipe_table-2.result
+      done = on_ok_weaker c.wipe_table-2.result
           (λ tidied. twice_rests store marked c.requires.turn c.args.named.now (λ n. no_marks c.args.named.now (ROW_PAGES * BOOK_ROWS) n c.requires.marks)
           start a b lawful c.in-Ok.ensures.done tidied (left_like store.rows start settled b span))
           c.wipe_table-2.ensures.done;

@@ -9,7 +9,7 @@ use Rattle.book_store.specs.Locating.{store_with}
 use Rattle.book_store.proofs.Openings.Likes.{like_shots}
 use Rattle.book_store.proofs.Openings.RowMarks.{held_marks}
 use Rattle.book_store.proofs.Openings.NewerSettled.{newer_blank, newer_body, newer_counts, newer_gate, newer_mute, newer_rests, newer_unnamed}
-use Rattle.book_store.proofs.Openings.Wiping.{on_ok}
+use Rattle.std.proofs.lemmas.Result.{on_ok_weaker}
 use Rattle.book_store.specs.declared.layout.TheConstants.{BOOK_ROWS, ROW_PAGES}
 use Rattle.book_store.proofs.settling.settle_newer.Goals as goal
 
@@ -51,7 +51,7 @@ returns g c =
     let span = like_shots store.rows start settled now c.wipe_table.ensures.shots.any_moment in
     record {
       any_moment = span;
-      done = on_ok c.wipe_table.result
+      done = on_ok_weaker c.wipe_table.result
           (λ tidied. newer_rests store marked c.requires.turn start settled shown c.mark_rows.new.named marks now span tidied)
           c.wipe_table.ensures.done;
       settled = c.wipe_table.ensures.settled;
