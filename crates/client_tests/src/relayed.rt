@@ -135,7 +135,16 @@ fn is_relayed(alloc: Global, row: (u32, Mode)) -> bool {
         return false;
     };
     let names = first.names();
-    let specs = [BoxSpec { name: names.own }, BoxSpec { name: names.peers }];
+    let specs = [
+        BoxSpec {
+            name: names.own,
+            keys: None,
+        },
+        BoxSpec {
+            name: names.peers,
+            keys: None,
+        },
+    ];
     let Ok(mut relay) = RelayLink::new(alloc, &specs) else {
         return false;
     };
