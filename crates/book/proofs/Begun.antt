@@ -28,11 +28,7 @@ use Rattle.book.proofs.Counted.{inside}
 use Rattle.book.proofs.Only.{held_at, only}
 use Rattle.book.proofs.Places.{IsOnly, begun_is, not_full, under_at, without_is}
 use Rattle.book.proofs.Stepped.{on_open, opened, row_of, then_is}
-use Rattle.book.proofs.Stored.{present_inside, stored_set}
-
-abbrev name_in : Option BookRow → List ℕ
-name_in None = []
-name_in (Some row) = row.name
+use Rattle.book.proofs.Stored.{name_in, present_inside, stored_set}
 
 none_named : {C : Type 0} (name : List ℕ) (rows : Rows C) → under name rows ≡ None → HasNone name rows
 none_named name [] none q = refl

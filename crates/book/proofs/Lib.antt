@@ -1,6 +1,7 @@
 pub mod Places
 mod Stored
 mod Only
+mod Filled
 mod Imaged
 mod Committed
 mod Staged
@@ -9,5 +10,7 @@ mod Kept
 mod Stepped
 mod Called
 mod Begun
+mod Renewed
+mod Opened
 mod Said
 mod Runs

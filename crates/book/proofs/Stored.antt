@@ -14,6 +14,10 @@ use Rattle.session_record.specs.Record.{record_text}
 use Rattle.book.specs.RowCells.{beside}
 use Rattle.book.specs.Rows.{stored, stored_row}
 
+abbrev pub name_in : Option BookRow → List ℕ
+name_in None = []
+name_in (Some row) = row.name
+
 -- ---- place by place
 
 -- what is present stands inside

@@ -9,5 +9,7 @@ pub mod Calling
 pub mod Beginning
 pub mod Forgetting
 pub mod Machines
+pub mod Opening
+pub mod Renewing
 pub mod Stepping
 pub mod Witness

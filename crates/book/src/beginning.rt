@@ -30,7 +30,7 @@ use relay_wire::Name;
 use std::alloc::Global;
 
 /// Writes a core's record, and answers its length.
-fn write_now<K: Kem>(core: &Core<K>, text: &mut Vec<u8>) -> usize
+pub(crate) fn write_now<K: Kem>(core: &Core<K>, text: &mut Vec<u8>) -> usize
     requires { HasRecordMemory row_bounds text.old }
     ensures text { HasText row_bounds text.new result }
     ensures written { take result text.new.items ≡ record_text core.now }

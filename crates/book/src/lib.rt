@@ -8,6 +8,7 @@
 #![tactic(auto)]
 
 pub use book::Book;
+pub use book_store::BookOpenError;
 pub use refusals::{BookBeginError, BookRefusal, ForgetError, NoName};
 
 mod beginning;
@@ -15,7 +16,10 @@ mod book;
 mod dropping;
 mod keeping;
 pub mod laws;
+mod opening;
+mod reading;
 mod refusals;
+mod renewing;
 mod row;
 mod saying;
 mod shelf;
