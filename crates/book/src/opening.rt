@@ -23,8 +23,9 @@ impl<K: Kem> Book<K> {
     /// Opens the book of so many rows that the disk holds: a sync, the reading of its table and of
     /// each row's record, and the wiping of all else; then records of an earlier version are
     /// replaced by the same in the newest one, all in one commit. `DamagedTable` and `DamagedRow`
-    /// exactly where what was read is no book's; then nothing was written. `StoreFault` only where
-    /// a call on the disk failed, and with `Memory` nothing was written.
+    /// only where what was read is no book's, and nothing was written then; `Ok` only where it is
+    /// one. `StoreFault` only where a call on the disk failed, and with `Memory` nothing was
+    /// written.
     pub fn open<D: Disk>(alloc: Global, disk: &mut D, rows: u32) -> Result<Book<K>, BookOpenError>
         requires few { rows ≤ BOOK_ROWS }
         requires within { HasBook rows (D.state disk.old) }

@@ -1,5 +1,5 @@
-//! Tests of the address book's store: its tables and their damage, and how they change, by another
-//! implementation.
+//! Tests of the address book: its tables and their damage, how they change, and a book of sessions,
+//! by another implementation.
 #![tactic(auto)]
 
 #[cfg(test)]
@@ -8,5 +8,7 @@ mod changes;
 mod damage;
 #[cfg(test)]
 mod opening;
+#[cfg(test)]
+mod sessions;
 #[cfg(test)]
 mod tables;
