@@ -106,7 +106,7 @@ fn exchange<R: Clock + AllocGlobal, D: Disk, L: Link, A: Door>(
         return Err(Error::from(ErrorKind::InvalidInput));
     }
     let bytes = requests(rt.alloc(), number)?;
-    match Server::open(rt.alloc(), disk, &[BoxSpec { name }]) {
+    match Server::open(rt.alloc(), disk, &[BoxSpec { name, keys: None }]) {
         Ok(mut server) => serve_once(rt, &mut server, disk, link, door, &bytes, times),
         Err(_) => Err(Error::from(ErrorKind::InvalidData)),
     }

@@ -56,7 +56,7 @@ fn time_posts<R: Clock + AllocGlobal>(rt: &R, frame: &[u8]) -> io::Result<u64> {
     let Some(name) = Name::new(b"a") else {
         return Ok(0);
     };
-    let mut relay = Relay::new(alloc, &[BoxSpec { name: name.copied() }])?;
+    let mut relay = Relay::new(alloc, &[BoxSpec { name: name.copied(), keys: None }])?;
     let mut reader = FrameReader::new(alloc)?;
     let mut out = [0; FRAME_LIMIT];
     let mut number: u64 = 0;
