@@ -8,9 +8,10 @@ use Rattle.grammar.specs.Grammar.{IsGrammar, WasPrinted, reading}
 use Rattle.grammar.specs.Reader.{Read, Reader, both, gives, number}
 use Rattle.grammar.proofs.Fields.{number_grammar}
 use Rattle.grammar.proofs.Combined.{both_grammar}
-use Rattle.bodies.specs.Bodies.{Body, body_read, body_text, head_field, body_head, is_content, with_content}
+use Rattle.bodies.specs.Bodies.{Body, body_read, body_text, head_field, body_head, with_content}
 use Rattle.bodies.specs.Receipts.{Receipt, receipt_field, receipt_text}
 use Rattle.dr_base.specs.declared.limits.TheConstants.{RECEIPTS}
+use Rattle.boxes.specs.Parts.{is_content}
 use Rattle.boxes.specs.declared.kinds.TheConstants.{TEXT_KIND}
 use Rattle.bodies.proofs.Passing.{PassesOrNone}
 use Rattle.bodies.proofs.ReceiptGrammar.{receipt_grammar}

@@ -6,9 +6,10 @@ use Rattle.dr_base.specs.declared.position.Position.{Position}
 use Rattle.dr_base.specs.declared.position.Side.{Side}
 use Rattle.grammar.specs.Reader.{Read, Reader, both, checked, counted, gives, maybe, number}
 use Rattle.grammar.specs.Standing.{Standing}
-use Rattle.bodies.specs.Bodies.{body_read, head_field, is_content, with_content}
+use Rattle.bodies.specs.Bodies.{body_read, head_field, with_content}
 use Rattle.bodies.specs.Receipts.{Receipt, bound_field, is_listed, is_one, last_in, listed_behind, listed_item, listed_place, receipt_field, receipt_text, at_most, with_listed}
 use Rattle.dr_base.specs.declared.limits.TheConstants.{RECEIPTS, RECEIPT_LIMIT}
+use Rattle.boxes.specs.Parts.{is_content}
 use Rattle.boxes.specs.declared.kinds.TheConstants.{TEXT_KIND}
 use Rattle.bodies.proofs.Heads.{Head}
 use Rattle.bodies.proofs.Lengths.{length-receipt}

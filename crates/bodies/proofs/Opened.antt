@@ -1,4 +1,4 @@
--- Where the content of opened bytes stands in them, that it is a text, and that it isn't too long: of all numbers, also of
+-- Where the content of opened bytes stands in them, that it is one of its kind, and that it isn't too long: of all numbers, also of
 -- those that are no bytes.
 use Rattle.std.proofs.Common.{◌≡◌, ℕ, ◌+◌, ◌-◌, ◌==◌, ◌≤◌, Bool, true, false, List, length, take, drop, Option, Some, None, Result, Ok, Err, refl, sym, ◌∙◌, ap, subst, arith, if◌then◌else◌}
 use Rattle.std.specs.Prelude.{◌≢◌, nat_le}
@@ -13,7 +13,9 @@ use Rattle.grammar.proofs.Steps.{from_test}
 use Rattle.bodies.specs.Bodies.{Body, HasContentAt, as_body, body_place, body_read, head_field, body_head, opened_body, text_body}
 use Rattle.bodies.specs.Padding.{filling, are_zeros, text_field, padded_field, found, unpadded}
 use Rattle.bodies.specs.declared.limits.TheConstants.{BODY_LIMIT}
+use Rattle.boxes.specs.Parts.{is_content}
 use Rattle.boxes.specs.declared.kinds.TheConstants.{TEXT_KIND}
+use Rattle.boxes.proofs.Contents.{content_fits, text_content}
 use Rattle.bodies.proofs.Heads.{from_head}
 use Rattle.bodies.proofs.Lengths.{is_other, length-body_head}
 use Rattle.bodies.proofs.HeadsTaken.{size_by, takes-head}
@@ -85,8 +87,8 @@ unpadded-place most bytes text h =
 
 record WasOpened (version : ℕ) (plain : Bool) (bytes : List ℕ) (body : Body) : Type 0 where
   place : HasContentAt bytes (if plain then 0 else 2 + length (body_head version body)) body.content
-  kind : body.kind ≡ TEXT_KIND
-  fits : plain ≡ false → length body.content ≤ TEXT_LIMIT
+  kind : plain ≡ true → body.kind ≡ TEXT_KIND
+  content : plain ≡ false → is_content body.kind body.content ≡ true
 
 whole_content : (bytes : List ℕ) → HasContentAt bytes 0 bytes
 whole_content bytes = record { inside = omega arith; here = take_all (length bytes) bytes (omega arith) }
@@ -114,13 +116,12 @@ from_text version side (Some text) bytes body was h =
     let size = size_by (version == RECEIPTS) x.value in
     let made : Body = record { receipt = x.value.0; kind = x.value.1; content = x.rest } in
     let long : length (body_head version made) ≡ size = length-body_head version made in
-    let content = and_parts (x.value.1 == TEXT_KIND) (nat_le (length x.rest) TEXT_LIMIT) from.2.passes in
     subst (WasOpened version false bytes) from.2.is
     (record {
       place = subst (λ (n : ℕ). HasContentAt bytes (2 + n) x.rest) (sym long)
           (subst (HasContentAt bytes (2 + size)) (sym taken.rest_is) (rest_of bytes text 2 size (was text refl) taken.inside));
-      kind = (Decides-eqb x.value.1 TEXT_KIND).0 content.0;
-      fits = λ _. leb-true (length x.rest) TEXT_LIMIT content.1;
+      kind = λ (plain : false ≡ true). cc;
+      content = λ _. from.2.passes;
     })
 
 opened_by : (version : ℕ) (side : Side) (plain : Bool) (bytes : List ℕ) (body : Body)
@@ -129,7 +130,7 @@ opened_by : (version : ℕ) (side : Side) (plain : Bool) (bytes : List ℕ) (bod
 opened_by version side true bytes body h =
     let given : Some (text_body bytes) ≡ Some body = h in
     let same : text_body bytes ≡ body = cc in
-    subst (WasOpened version true bytes) same (record { place = whole_content bytes; kind = refl; fits = λ padded. cc })
+    subst (WasOpened version true bytes) same (record { place = whole_content bytes; kind = λ _. refl; content = λ padded. cc })
 opened_by version side false bytes body h =
     from_text version side (unpadded BODY_LIMIT bytes) bytes body (λ text is. unpadded-place BODY_LIMIT bytes text is) h
 
@@ -147,13 +148,19 @@ pub opened-place : (version : ℕ) (side : Side) (bytes : List ℕ) (body : Body
 unfolding opened_body
 opened-place version side bytes body h = (opened_by version side (version == PLAIN) bytes body h).place
 
-pub opened-kind : (version : ℕ) (side : Side) (bytes : List ℕ) (body : Body)
-    → opened_body version side bytes ≡ Some body → body.kind ≡ TEXT_KIND
+-- where it isn't too long, it is a content of its kind
+pub opened-content : (version : ℕ) (side : Side) (bytes : List ℕ) (body : Body)
+    → opened_body version side bytes ≡ Some body → length body.content ≤ TEXT_LIMIT → is_content body.kind body.content ≡ true
 unfolding opened_body
-opened-kind version side bytes body h = (opened_by version side (version == PLAIN) bytes body h).kind
+opened-content version side bytes body h fits = by_version (version == PLAIN) (opened_by version side (version == PLAIN) bytes body h)
+  where
+    by_version : (plain : Bool) → WasOpened version plain bytes body → is_content body.kind body.content ≡ true
+    by_version true opened =
+        subst (λ (kind : ℕ). is_content kind body.content ≡ true) (sym (opened.kind refl)) (text_content body.content fits)
+    by_version false opened = opened.content refl
 
 pub opened-fits : (version : ℕ) (side : Side) (bytes : List ℕ) (body : Body)
     → opened_body version side bytes ≡ Some body → version ≢ PLAIN → length body.content ≤ TEXT_LIMIT
 unfolding opened_body
 opened-fits version side bytes body h padded =
-    (opened_by version side (version == PLAIN) bytes body h).fits (is_other version PLAIN padded)
+    content_fits body.kind body.content ((opened_by version side (version == PLAIN) bytes body h).content (is_other version PLAIN padded))

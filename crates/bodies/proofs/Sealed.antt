@@ -15,6 +15,7 @@ use Rattle.bodies.specs.Padding.{filling, padded, unpadded}
 use Rattle.bodies.specs.Receipts.{Receipt}
 use Rattle.bodies.specs.declared.limits.TheConstants.{BODY_LIMIT}
 use Rattle.boxes.specs.declared.kinds.TheConstants.{TEXT_KIND}
+use Rattle.boxes.proofs.Contents.{content_fits, content_kind}
 use Rattle.bodies.proofs.Heads.{Head, Passes, PassesHead, body-only, body-reads, head_of}
 use Rattle.bodies.proofs.Lengths.{differs, not_told, short-head}
 use Rattle.bodies.proofs.Listed.{or-lawful, or-passes}
@@ -31,43 +32,36 @@ alone_is body none kind =
 head_passes : (told : Bool) (version : ℕ) (side : Side) (body : Body) → (version == RECEIPTS) ≡ told
     → IsLawfulBody version side body → PassesHead told side (head_of body)
 head_passes true version side body is lawful =
-    (or-passes side body.receipt lawful.receipt, omega (arith, lawful.kind))
+    let padded : version ≢ PLAIN = let e = eqb-true version RECEIPTS is in λ plain. omega arith in
+    (or-passes side body.receipt lawful.receipt, omega (arith, content_kind body.kind body.content (lawful.content padded)))
 head_passes false version side body is lawful =
     let pair : Option Receipt → ℕ → Head = λ r k. (r, k) in
-    ap₂ pair (lawful.alone (differs version RECEIPTS is)) lawful.kind
+    ap₂ pair (lawful.alone (differs version RECEIPTS is)) (lawful.kind (differs version RECEIPTS is))
 
 passes : (version : ℕ) (side : Side) (body : Body) → version ≢ PLAIN → IsLawfulBody version side body
     → Passes version side body
 passes version side body padded lawful = record {
   head = head_passes (version == RECEIPTS) version side body refl lawful;
-  content =
-      let kind : (body.kind == TEXT_KIND) ≡ true = let is = lawful.kind in grind (arith, nat_tests) in
-      and_from (body.kind == TEXT_KIND) (nat_le (length body.content) TEXT_LIMIT) kind
-      (le-leb (length body.content) TEXT_LIMIT (lawful.fits padded));
+  content = lawful.content padded;
 }
 
 from_head : (told : Bool) (version : ℕ) (side : Side) (body : Body) → (version == RECEIPTS) ≡ told
-    → PassesHead told side (head_of body) → IsReceiptOrNone side body.receipt × (version ≢ RECEIPTS → body.receipt ≡ None)
+    → PassesHead told side (head_of body) → IsReceiptOrNone side body.receipt × (version ≢ RECEIPTS → body.receipt ≡ None) × (version ≢ RECEIPTS → body.kind ≡ TEXT_KIND)
 from_head true version side body is passes =
-    (or-lawful side body.receipt passes.0, λ other. absurd (other (eqb-true version RECEIPTS is)))
+    let told = eqb-true version RECEIPTS is in
+    (or-lawful side body.receipt passes.0, λ other. absurd (other told), λ other. absurd (other told))
 from_head false version side body is passes =
     let none : body.receipt ≡ None = ap (λ (e : Head). e.0) passes in
-    (subst (IsReceiptOrNone side) (sym none) tt, λ other. none)
+    (subst (IsReceiptOrNone side) (sym none) tt, λ other. none, λ other. ap (λ (e : Head). e.1) passes)
 
 lawful_of : (version : ℕ) (side : Side) (body : Body) → Passes version side body → IsLawfulBody version side body
 lawful_of version side body passes =
     let head = from_head (version == RECEIPTS) version side body refl passes.head in
-    let content = and_parts (body.kind == TEXT_KIND) (nat_le (length body.content) TEXT_LIMIT) passes.content in
-    record {
-      receipt = head.0;
-      alone = head.1;
-      kind = eqb-true body.kind TEXT_KIND content.0;
-      fits = λ padded. leb-true (length body.content) TEXT_LIMIT content.1;
-    }
+    record { receipt = head.0; alone = head.1; kind = head.2; content = λ padded. passes.content }
 
 lawful_text : (version : ℕ) (side : Side) (text : List ℕ) → version ≡ PLAIN → IsLawfulBody version side (text_body text)
 lawful_text version side text plain =
-    record { receipt = tt; alone = λ other. refl; kind = refl; fits = λ padded. absurd (padded plain) }
+    record { receipt = tt; alone = λ other. refl; kind = λ other. refl; content = λ padded. absurd (padded plain) }
 
 -- ---- sealed, then opened
 
@@ -81,7 +75,7 @@ text_fits : (version : ℕ) (side : Side) (body : Body) → version ≢ PLAIN �
 text_fits version side body padded lawful =
     omega (
       arith,
-      lawful.fits padded,
+      content_fits body.kind body.content (lawful.content padded),
       short-head version body (few_listed side body.receipt lawful.receipt),
       length-append (body_head version body) body.content,
     )
@@ -96,7 +90,8 @@ opened_by plain version side bytes =
 opens_by : (plain : Bool) (version : ℕ) (side : Side) (body : Body) → (version == PLAIN) ≡ plain
     → IsLawfulBody version side body → opened_by plain version side (sealed_by plain version body) ≡ Some body
 opens_by true version side body is lawful =
-    ap Some (alone_is body (lawful.alone (differs version RECEIPTS (not_told version is))) lawful.kind)
+    let other = differs version RECEIPTS (not_told version is) in
+    ap Some (alone_is body (lawful.alone other) (lawful.kind other))
 opens_by false version side body is lawful =
     let padded = differs version PLAIN is in
     ap (as_body version side)

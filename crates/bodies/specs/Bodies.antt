@@ -1,13 +1,14 @@
 -- What a packet seals, by its version: a text as it is; a text padded; or a receipt, a kind and a
 -- text, padded together.
-use Rattle.std.specs.Prelude.{◌≡◌, ℕ, ◌+◌, ◌≤◌, ◌==◌, ◌&&◌, Bool, nat_le, List, [], ◌++◌, length, take, drop, Option, Some, None, Result, Ok, Err, if◌then◌else◌}
+use Rattle.std.specs.Prelude.{◌≡◌, ℕ, ◌+◌, ◌≤◌, ◌==◌, List, [], ◌++◌, length, take, drop, Option, Some, None, Result, Ok, Err, if◌then◌else◌}
 use Rattle.std.specs.Int.{w8, to_be_bytes}
-use Rattle.dr_base.specs.declared.limits.TheConstants.{PLAIN, RECEIPTS, TEXT_LIMIT}
+use Rattle.dr_base.specs.declared.limits.TheConstants.{PLAIN, RECEIPTS}
 use Rattle.dr_base.specs.declared.position.Side.{Side}
 use Rattle.grammar.specs.Reader.{Read, Reader, both, gives, number}
 use Rattle.bodies.specs.Padding.{padded, unpadded}
 use Rattle.bodies.specs.Receipts.{Receipt, receipt_field, receipt_text}
 use Rattle.bodies.specs.declared.limits.TheConstants.{BODY_LIMIT}
+use Rattle.boxes.specs.Parts.{is_content}
 use Rattle.boxes.specs.declared.kinds.TheConstants.{TEXT_KIND}
 
 -- what an opened packet holds
@@ -19,10 +20,6 @@ pub record Body : Type 0 where
 -- a text alone
 abbrev pub text_body : List ℕ → Body
 text_body text = record { receipt = None; kind = TEXT_KIND; content = text }
-
--- the contents of a kind: those of a text
-abbrev pub is_content : ℕ → List ℕ → Bool
-is_content kind content = (kind == TEXT_KIND) && nat_le (length content) TEXT_LIMIT
 
 -- ---- sealed
 
@@ -56,7 +53,7 @@ head_field version side at bytes =
     if version == RECEIPTS then both (receipt_field side) (λ _. number w8) at bytes
     else gives (None, TEXT_KIND) at bytes
 
--- what follows them is the content, if it is one of that kind
+-- what follows them is the content, if it is one of that kind: a text, or a part of a long one
 abbrev pub with_content : Result (Read (Option Receipt × ℕ)) ℕ → Option Body
 with_content (Ok x) =
     if is_content x.value.1 x.rest

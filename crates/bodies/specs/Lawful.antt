@@ -2,11 +2,12 @@
 use Rattle.std.specs.Prelude.{◌≡◌, ◌≢◌, ℕ, ◌<◌, ◌^◌, ◌≤◌, ⊤, true, false, List, length, AllPairs, All, Option, Some, None}
 use Rattle.std.specs.List.{list_any}
 use Rattle.dr_base.specs.Position.{IsBefore, IsUpTo, is_at, is_own}
-use Rattle.dr_base.specs.declared.limits.TheConstants.{PLAIN, RECEIPTS, RECEIPT_LIMIT, TEXT_LIMIT}
+use Rattle.dr_base.specs.declared.limits.TheConstants.{PLAIN, RECEIPTS, RECEIPT_LIMIT}
 use Rattle.dr_base.specs.declared.position.Position.{Position}
 use Rattle.dr_base.specs.declared.position.Side.{Side}
 use Rattle.bodies.specs.Bodies.{Body}
 use Rattle.bodies.specs.Receipts.{Receipt}
+use Rattle.boxes.specs.Parts.{is_content}
 use Rattle.boxes.specs.declared.kinds.TheConstants.{TEXT_KIND}
 
 -- its numbers fit their fields
@@ -37,15 +38,14 @@ abbrev pub IsReceiptOrNone : Side → Option Receipt → Type 0
 IsReceiptOrNone side None = ⊤
 IsReceiptOrNone side (Some r) = IsLawfulReceipt side r
 
--- A body that a side may open: a text, which is no longer than the longest one, and a receipt for
--- that side or none. Of the length of a plain text nothing is asked: the packet's own grammar
--- bounds what it seals.
+-- A body that a side may open: a content of a kind, and a receipt for that side or none. Of a
+-- plain text nothing is asked: the packet's own grammar bounds what it seals.
 pub record IsLawfulBody (version : ℕ) (side : Side) (body : Body) : Type 0 where
   pub receipt : IsReceiptOrNone side body.receipt
-  -- only packets with receipts have one
+  -- only packets with receipts have one, and another kind than a text
   pub alone : version ≢ RECEIPTS → body.receipt ≡ None
-  pub kind : body.kind ≡ TEXT_KIND
-  pub fits : version ≢ PLAIN → length body.content ≤ TEXT_LIMIT
+  pub kind : version ≢ RECEIPTS → body.kind ≡ TEXT_KIND
+  pub content : version ≢ PLAIN → is_content body.kind body.content ≡ true
 
 -- what a receipt says of a position p, where its sender has read a side's texts up to a position,
 -- and misses some: p is one of that side's, up to there, and its text isn't missing

@@ -15,7 +15,7 @@ use std::marker::Model;
 #[derive(Drop)]
 pub struct Body<'a> {
     pub receipt: Option<Receipt>,
-    /// `TEXT_KIND` is a text.
+    /// `TEXT_KIND` is a text, `PART_KIND` a part of a long one.
     pub kind: u8,
     pub content: &'a [u8],
 }

@@ -3,8 +3,9 @@
 //!
 //! A packet of version `PLAIN` seals its text as it is. One of version `PADDED` seals the text's
 //! length (2 bytes, the high one first), the text, and zeros up to the least multiple of 256 bytes.
-//! One of version `RECEIPTS` seals in this way a receipt, a kind (1 byte) and a text. A receipt is
-//! a byte 00; or 01, its bound, and the positions that it lists after their count (1 byte).
+//! One of version `RECEIPTS` seals in this way a receipt, a kind (1 byte) and a content of that
+//! kind: a text, or a part of a long one. A receipt is a byte 00; or 01, its bound, and the
+//! positions that it lists after their count (1 byte).
 //!
 //! `specs/Bodies` defines all three, sealed and opened, and `specs/Receipts` what receipts are and
 //! what they cover. `bodies_law` says that what was sealed is opened, and nothing else,
@@ -25,7 +26,7 @@
 #![tactic(auto)]
 
 pub use body::{Body, body_place};
-pub use boxes::TEXT_KIND;
+pub use boxes::{PART_KIND, TEXT_KIND};
 pub use format::Format;
 pub use law::{bodies_law, lengths_law, receipts_law};
 pub use limits::{BODY_LIMIT, limits_in_numbers};

@@ -2,14 +2,14 @@
 
 ghost use Rattle.std.specs.Prelude.{◌≡◌, ◌≢◌, ◌≤◌, option_map, length, IfSome};
 ghost use Rattle.grammar.specs.Standing.{Reads};
-ghost use Rattle.bodies.specs.Bodies.{HasContentAt, body_place, body_read, is_content, opened_body};
+ghost use Rattle.bodies.specs.Bodies.{HasContentAt, body_place, body_read, opened_body};
 ghost use Rattle.bodies.specs.Padding.{are_zeros, padded_field, unpadded};
 
 use crate::body::Body;
 use crate::limits::BODY_LIMIT;
 use crate::padding::filling;
 use crate::reading::read_head;
-use boxes::TEXT_KIND;
+use boxes::is_content;
 use dr_base::{PLAIN, Side, TEXT_LIMIT};
 use grammar::Cursor;
 
@@ -49,13 +49,6 @@ fn unpadded(bytes: &[u8]) -> Option<&[u8]>
         return None;
     };
     if cursor.is_at_end() { Some(text) } else { None }
-}
-
-/// Whether a kind may have a content.
-fn is_content(kind: u8, content: &[u8]) -> bool
-    ensures { result ≡ is_content kind content.now }
-{
-    kind == TEXT_KIND && content.len() <= TEXT_LIMIT
 }
 
 /// The body that a packet of a version has as these bytes, if they are one.

@@ -1,6 +1,7 @@
 -- What the inbox holds: a list of entries, the oldest first.
-use Rattle.std.specs.Prelude.{ℕ, List}
+use Rattle.std.specs.Prelude.{ℕ, Bool, List}
 use Rattle.boxes.specs.Items.{Item}
+use Rattle.boxes.specs.Parts.{is_part_under}
 use Rattle.boxes.specs.declared.kinds.TheConstants.{TEXT_KIND}
 use Rattle.dr_base.specs.declared.position.Position.{Position}
 
@@ -20,3 +21,7 @@ entry_under position text = entry_with position TEXT_KIND text
 -- the entry that stands in a room
 abbrev pub as_entry : Item → Entry
 as_entry item = entry_with item.position item.kind item.bytes
+
+-- an entry is a part of the long text of an id
+abbrev pub is_of : ℕ → Entry → Bool
+is_of id entry = is_part_under id entry.kind entry.text

@@ -1,3 +1,5 @@
+pub mod Limits
+pub mod Parts
 pub mod Items
 pub mod Entries
 pub mod Posts

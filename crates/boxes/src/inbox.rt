@@ -1,10 +1,12 @@
 //! The inbox: the texts that came in, each under its position, with its kind.
 
 ghost use Rattle.std.specs.Prelude.{◌≡◌, ◌<◌, ◌≤◌, ◌↔◌, [], length, All, option_map, slice_get, IsSome, IfOk, IfSome};
-ghost use Rattle.boxes.specs.Changes.{Pushes, DropsFirst};
-ghost use Rattle.boxes.specs.Entries.{entry_with};
+ghost use Rattle.std.specs.List.{list_any};
+ghost use Rattle.boxes.specs.Changes.{Pushes, DropsAll, DropsFirst};
+ghost use Rattle.boxes.specs.Entries.{entry_with, is_of};
 
-use crate::errors::{Fewer, Full};
+use crate::errors::{Fewer, Full, NoLong};
+use crate::part::is_part_under;
 use crate::row::Row;
 use dr_base::{INBOX_LIMIT, Position, TEXT_LIMIT};
 use std::alloc::{AllocError, Global};
@@ -16,6 +18,17 @@ pub struct Entry<'a> {
     pub position: Position,
     pub kind: u8,
     pub text: &'a [u8],
+}
+
+impl Entry<'_> {
+    ghost use Rattle.boxes.specs.Seen.{entry_seen};
+
+    /// Whether it is a part of the long text of an id.
+    pub fn is_of(&self, id: u32) -> bool
+        ensures { result ≡ is_of id (entry_seen self.now) }
+    {
+        is_part_under(id, self.kind, self.text)
+    }
 }
 
 /// The texts that came in. A contract sees the list of them, the oldest first.
@@ -84,5 +97,30 @@ impl Inbox {
         ensures { DropsFirst n self.old self.new result }
     {
         self.row.drop_first(n)
+    }
+
+    /// Whether a part of the long text of an id stands.
+    pub fn has_long(&self, id: u32) -> bool
+        ensures { result ≡ list_any (is_of id) self.now }
+    {
+        'entries: for at in 0..self.len() as usize {
+            match self.at(at) {
+                Some(entry) => {
+                    if entry.is_of(id) {
+                        return true;
+                    }
+                }
+                None => unreachable!(),
+            }
+        }
+        false
+    }
+
+    /// Drops each part of the long text of an id; the others stay in their order. `NoLong` comes
+    /// exactly where none stands, and leaves the inbox as it was.
+    pub fn drop_long(&mut self, id: u32) -> Result<(), NoLong>
+        ensures { DropsAll (is_of id) self.old self.new result }
+    {
+        self.row.drop_long(id)
     }
 }

@@ -19,14 +19,20 @@
 //! ```
 #![tactic(auto)]
 
-pub use errors::{Fewer, Full};
+pub use errors::{Fewer, Full, NoLong};
 pub use inbox::{Entry, Inbox};
-pub use kinds::TEXT_KIND;
+pub use kinds::{PART_KIND, TEXT_KIND, is_content};
+pub use limits::{PART_HEAD, PART_LIMIT, PARTS_LIMIT};
 pub use outbox::Outbox;
+pub use part::{Part, is_part, parse_part, put_part};
 pub use row::{Row, Stored};
 
 mod errors;
 mod inbox;
 mod kinds;
+pub mod laws;
+mod leaving;
+mod limits;
 mod outbox;
+mod part;
 mod row;

@@ -2,11 +2,12 @@
 //! is taken once.
 
 ghost use Rattle.std.specs.Prelude.{◌≡◌, ◌^◌, ◌<◌, ◌≤◌, ◌↔◌, ◌∷◌, ◌++◌, [], length, vec_capacity, All, option_copied, slice_get, IsSome, IfOk};
-ghost use Rattle.boxes.specs.Changes.{Pushes, DropsFirst};
-ghost use Rattle.boxes.specs.Items.{item_at};
+ghost use Rattle.boxes.specs.Changes.{Pushes, DropsAll, DropsFirst};
+ghost use Rattle.boxes.specs.Items.{is_item_of, item_at};
 ghost use Rattle.boxes.specs.Rooms.{turned_front};
 
-use crate::errors::{Fewer, Full};
+use crate::errors::{Fewer, Full, NoLong};
+use crate::leaving::keep_others;
 use arrayvec::ArrayVec;
 use dr_base::{Position, in_room};
 use std::alloc::{AllocError, Global};
@@ -198,6 +199,27 @@ impl<const LIMIT: usize, const ROOM: usize> Row<LIMIT, ROOM> {
         }
         turn_front(self.order.as_mut_slice(), self.held, n as usize);
         self.held -= n as usize;
+        Ok(())
+    }
+
+    /// Drops each item that is a part of the long text of an id; the others stay in their order.
+    /// Where none is one, the row stays as it was.
+    pub fn drop_long(&mut self, id: u32) -> Result<(), NoLong>
+        ensures { DropsAll (is_item_of id) self.old self.new result }
+    {
+        if self.held == 0 {
+            return Err(NoLong);
+        }
+        let kept = keep_others(
+            self.order.as_mut_slice(),
+            self.held,
+            self.rooms.as_slice(),
+            id,
+        );
+        if kept == self.held {
+            return Err(NoLong);
+        }
+        self.held = kept;
         Ok(())
     }
 }

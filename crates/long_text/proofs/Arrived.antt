@@ -6,11 +6,13 @@ use Rattle.std.proofs.lemmas.Bool.Decides.{Decides-eqb}
 use Rattle.std.proofs.lemmas.List.{length-take}
 use Rattle.long_text.specs.Cuts.{bytes_at, count_of, part_at}
 use Rattle.long_text.specs.Longs.{has_number}
-use Rattle.long_text.specs.Parts.{IsPart, part_of, part_text}
-use Rattle.long_text.specs.Pieces.{Piece, is_of, piece, pieces}
+use Rattle.boxes.specs.Parts.{IsPart, part_of, part_text}
+use Rattle.boxes.specs.Entries.{is_of}
+use Rattle.long_text.specs.Pieces.{Piece, piece, pieces}
 use Rattle.long_text.specs.Told.{Arrival, HasArrived, IsPartOf, IsTold, entries_of, entry_of}
-use Rattle.long_text.specs.declared.limits.TheConstants.{LONG_LIMIT, PART_LIMIT}
-use Rattle.long_text.proofs.Reading.{both_true, id_read, is_part-text}
+use Rattle.boxes.specs.declared.limits.TheConstants.{PART_LIMIT}
+use Rattle.long_text.specs.declared.limits.TheConstants.{LONG_LIMIT}
+use Rattle.boxes.proofs.Reading.{both_true, id_read, is_part-text}
 use Rattle.long_text.proofs.Told.{few_parts}
 
 pub lawful_at : (id : ℕ) (text : List ℕ) (number : ℕ) → length text ≤ LONG_LIMIT → 1 ≤ number

@@ -3,7 +3,7 @@ use Rattle.std.proofs.Common.{◌≡◌, ◌≤◌, ◌*◌, ◌-◌, ℕ, List,
 use Rattle.std.proofs.lemmas.Grind.{div_ceil_times}
 use Rattle.std.proofs.lemmas.List.{length-drop, take_all, take_min}
 use Rattle.long_text.specs.Cuts.{count_of}
-use Rattle.long_text.specs.declared.limits.TheConstants.{PART_LIMIT}
+use Rattle.boxes.specs.declared.limits.TheConstants.{PART_LIMIT}
 
 -- what the text has behind a place, as far as it goes and no further than a size
 pub cut_short : (text : List ℕ) (start size m : ℕ)

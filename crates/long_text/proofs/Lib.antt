@@ -1,6 +1,5 @@
-mod Reading
-mod Told
+pub mod Told
 mod Stepping
 mod Wholes
-mod Arrived
+pub mod Arrived
 mod Cuts

@@ -5,8 +5,8 @@ use Rattle.std.specs.List.{list_any, range_with_len}
 use Rattle.std.proofs.lemmas.Bool.Decides.{nat_tests}
 use Rattle.std.proofs.lemmas.List.{length-drop, nil_from_length}
 use Rattle.std.proofs.lemmas.Option.{slice_get-get_or}
-use Rattle.boxes.specs.Entries.{Entry, entry_with}
-use Rattle.long_text.specs.Pieces.{Piece, is_of, piece, pieces}
+use Rattle.boxes.specs.Entries.{Entry, entry_with, is_of}
+use Rattle.long_text.specs.Pieces.{Piece, piece, pieces}
 
 abbrev pub cons_if : {X : Type 0} → Option X → List X → List X
 cons_if None list = list

@@ -8,7 +8,8 @@ use Rattle.std.proofs.lemmas.Bool.Decides.{Decides-eqb, nat_tests}
 use Rattle.std.proofs.lemmas.Grind.{div_ceil_times}
 use Rattle.std.proofs.lemmas.List.{take_all, drop-drop}
 use Rattle.std.proofs.lemmas.Slice.Eq.{bytes_eq-Decides}
-use Rattle.long_text.specs.declared.limits.TheConstants.{LONG_LIMIT, PARTS_LIMIT, PART_LIMIT}
+use Rattle.boxes.specs.declared.limits.TheConstants.{PARTS_LIMIT, PART_LIMIT}
+use Rattle.long_text.specs.declared.limits.TheConstants.{LONG_LIMIT}
 use Rattle.boxes.specs.Entries.{Entry}
 use Rattle.long_text.specs.Pieces.{Piece, pieces}
 use Rattle.long_text.specs.Longs.{bytes_of, bytes_under, clash_in, clash_of, clashes, has_number, joined, long_from, long_of, numbers_had, unless_clash, whole_of}

@@ -1,8 +1,8 @@
 -- How a text is cut into parts.
 use Rattle.std.specs.Prelude.{ℕ, ◌*◌, ◌-◌, ◌&&◌, nat_le, List, length, max, take, drop, Option, Some, None, if◌then◌else◌}
 use Rattle.std.specs.Int.{div_ceil}
-use Rattle.long_text.specs.Parts.{Part}
-use Rattle.long_text.specs.declared.limits.TheConstants.{PART_LIMIT}
+use Rattle.boxes.specs.Parts.{Part}
+use Rattle.boxes.specs.declared.limits.TheConstants.{PART_LIMIT}
 
 -- how many parts a text has: it is cut after each PART_LIMIT bytes, and an empty one is one part
 abbrev pub count_of : List ℕ → ℕ

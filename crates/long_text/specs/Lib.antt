@@ -1,5 +1,4 @@
 pub mod Limits
-pub mod Parts
 pub mod Pieces
 pub mod Longs
 pub mod Cuts

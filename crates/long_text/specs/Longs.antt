@@ -3,7 +3,7 @@ use Rattle.std.specs.Prelude.{ℕ, ◌==◌, ◌&&◌, ◌||◌, Bool, not, nat_
 use Rattle.std.specs.List.{list_any, range_with_len}
 use Rattle.std.specs.Str.{bytes_eq}
 use Rattle.boxes.specs.Entries.{Entry}
-use Rattle.long_text.specs.declared.limits.TheConstants.{PARTS_LIMIT}
+use Rattle.boxes.specs.declared.limits.TheConstants.{PARTS_LIMIT}
 use Rattle.long_text.specs.Pieces.{Piece, pieces}
 use Rattle.long_text.specs.declared.refusal.LongRefusal.{LongRefusal}
 use Rattle.long_text.specs.declared.refusal.LongRefusal.TheVariants.{Clash, NoLong, Parts}

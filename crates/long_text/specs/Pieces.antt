@@ -1,9 +1,8 @@
 -- The pieces of a long text that stand among entries.
-use Rattle.std.specs.Prelude.{ℕ, ◌==◌, ◌&&◌, Bool, List, map, filter}
-use Rattle.boxes.specs.Entries.{Entry}
+use Rattle.std.specs.Prelude.{ℕ, List, map, filter}
+use Rattle.boxes.specs.Entries.{Entry, is_of}
+use Rattle.boxes.specs.Parts.{part_of}
 use Rattle.dr_base.specs.declared.position.Position.{Position}
-use Rattle.long_text.specs.Parts.{is_part, part_of}
-use Rattle.long_text.specs.declared.limits.TheConstants.{PART_KIND}
 
 -- a part that stands, under its position
 pub record Piece : Type 0 where
@@ -11,11 +10,6 @@ pub record Piece : Type 0 where
   pub number : ℕ
   pub count : ℕ
   pub bytes : List ℕ
-
--- an entry is a part under this id
-abbrev pub is_of : ℕ → Entry → Bool
-is_of id entry =
-    (entry.kind == PART_KIND) && (is_part entry.text && ((part_of entry.text).id == id))
 
 abbrev pub piece : Entry → Piece
 piece entry = record {

@@ -5,9 +5,10 @@ use Rattle.boxes.specs.Entries.{Entry, entry_with}
 use Rattle.dr_base.specs.declared.position.Position.{Position}
 use Rattle.long_text.specs.Cuts.{bytes_at, count_of, part_at}
 use Rattle.long_text.specs.Longs.{has_number}
-use Rattle.long_text.specs.Parts.{part_text}
+use Rattle.boxes.specs.Parts.{part_text}
 use Rattle.long_text.specs.Pieces.{Piece, pieces}
-use Rattle.long_text.specs.declared.limits.TheConstants.{LONG_LIMIT, PART_KIND}
+use Rattle.boxes.specs.declared.kinds.TheConstants.{PART_KIND}
+use Rattle.long_text.specs.declared.limits.TheConstants.{LONG_LIMIT}
 
 -- a piece is one of the text's parts
 pub record IsPartOf (text : List ℕ) (p : Piece) : Type 0 where

@@ -2,11 +2,11 @@
 
 ghost use Rattle.std.specs.Prelude.{◌≡◌, ◌≤◌, ◌*◌, ◌-◌, length, IfSome};
 ghost use Rattle.long_text.specs.Cuts.{bytes_at, count_of, part_cut};
-ghost use Rattle.long_text.specs.Parts.{IsPart};
-ghost use Rattle.long_text.specs.declared.limits.TheConstants.{LONG_LIMIT, PARTS_LIMIT, PART_LIMIT};
+ghost use Rattle.boxes.specs.Parts.{IsPart};
+ghost use Rattle.boxes.specs.declared.limits.TheConstants.{PARTS_LIMIT, PART_LIMIT};
+ghost use Rattle.long_text.specs.declared.limits.TheConstants.{LONG_LIMIT};
 
-use crate::limits::PART_LIMIT;
-use crate::part::Part;
+use boxes::{PART_LIMIT, Part};
 
 /// How many parts a text has: it is cut after each `PART_LIMIT` bytes, and an empty one is one
 /// part.

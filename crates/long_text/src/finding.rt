@@ -2,17 +2,15 @@
 
 ghost use Rattle.std.specs.Prelude.{◌≡◌, ◌<◌, ◌≤◌, ◌+◌, ◌*◌, [], true, length, drop, slice_get, find, filter, Option, option_map, IfSome, List, ℕ, if◌then◌else◌};
 ghost use Rattle.std.specs.List.{list_any, range_with_len};
-ghost use Rattle.boxes.specs.Entries.{Entry};
-ghost use Rattle.long_text.specs.declared.limits.TheConstants.{PARTS_LIMIT, PART_LIMIT};
+ghost use Rattle.boxes.specs.Entries.{Entry, is_of};
+ghost use Rattle.boxes.specs.declared.limits.TheConstants.{PARTS_LIMIT, PART_LIMIT};
 ghost use Rattle.long_text.specs.Longs.{clash_in, clashes, count_told, has_number, numbers_had};
-ghost use Rattle.long_text.specs.Pieces.{Piece as Meant, is_of, piece, pieces};
+ghost use Rattle.long_text.specs.Pieces.{Piece as Meant, piece, pieces};
 ghost use Rattle.long_text.specs.declared.refusal.LongRefusal.{LongRefusal};
 ghost use Rattle.long_text.specs.declared.refusal.LongRefusal.TheVariants.{Clash};
 
-use crate::limits::{PART_KIND, PARTS_LIMIT};
-use crate::part::parse_part;
 use crate::refusal::LongRefusal;
-use boxes::Inbox;
+use boxes::{Inbox, PART_KIND, PARTS_LIMIT, parse_part};
 use dr_base::Position;
 use std::marker::Model;
 

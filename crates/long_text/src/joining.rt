@@ -2,7 +2,8 @@
 
 ghost use Rattle.std.specs.Prelude.{◌≡◌, ◌≤◌, ◌*◌, ◌+◌, length, ℕ, List};
 ghost use Rattle.dr_base.specs.Buffer.{Puts};
-ghost use Rattle.long_text.specs.declared.limits.TheConstants.{LONG_LIMIT, PARTS_LIMIT};
+ghost use Rattle.boxes.specs.declared.limits.TheConstants.{PARTS_LIMIT};
+ghost use Rattle.long_text.specs.declared.limits.TheConstants.{LONG_LIMIT};
 ghost use Rattle.long_text.specs.Longs.{joined, long_of};
 ghost use Rattle.long_text.specs.Pieces.{pieces};
 ghost use Rattle.long_text.specs.Seen.{Fills};

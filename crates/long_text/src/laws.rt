@@ -1,21 +1,12 @@
 //! The laws of long texts. The functions have no code: a caller that needs a fact calls them.
 
-ghost use Rattle.std.specs.Prelude.{◌≡◌, ◌<◌, ◌^◌, ℕ, List, Ok, Some};
+ghost use Rattle.std.specs.Prelude.{◌≡◌, ◌<◌, ◌^◌, ℕ, List, Ok};
 ghost use Rattle.boxes.specs.Entries.{Entry};
-ghost use Rattle.dr_base.specs.Bytes.{AreBytes};
 ghost use Rattle.long_text.specs.Longs.{long_of};
-ghost use Rattle.long_text.specs.Parts.{IsPart, Part, part_read, part_text};
 ghost use Rattle.long_text.specs.Told.{Arrival, HasArrived, IsTold, entries_of};
 
 pub use crate::limits::limits_in_numbers;
-
-/// The bytes of a lawful part are read as that part, and nothing else is read as one.
-pub fn parts_law()
-    ensures read { (part : Part) → IsPart part → part.id < 2 ^ 32
-        → part_read (part_text part) ≡ Some part }
-    ensures only { (bytes : List ℕ) (part : Part) → AreBytes bytes
-        → part_read bytes ≡ Some part → (bytes ≡ part_text part) × IsPart part }
-{}
+pub use boxes::laws::parts_law;
 
 /// In whatever order parts came, and how often: where each part of a text stands, and no other
 /// under its id, the long text is that text.

@@ -5,7 +5,7 @@
 //! empty one is one part. The parts stand in an inbox, in whatever order they came, and some of
 //! them perhaps more than once: `long` joins those of one id, or says what is lacking or clashes.
 //!
-//! `specs/Parts` defines parts, `specs/Longs` what those of an id make up, `specs/Cuts` how a text
+//! `boxes` defines parts, `specs/Longs` says what those of an id make up, `specs/Cuts` how a text
 //! is cut. `laws::told_is_long` says that a text whose parts stand in an inbox is what is joined.
 //!
 //! ```rust
@@ -24,10 +24,10 @@
 //! ```
 #![tactic(auto)]
 
+pub use boxes::{PART_HEAD, PART_KIND, PART_LIMIT, PARTS_LIMIT, Part, parse_part, put_part};
 pub use cutting::{cut_part, part_count};
 pub use joining::long;
-pub use limits::{LONG_LIMIT, PART_HEAD, PART_KIND, PART_LIMIT, PARTS_LIMIT};
-pub use part::{Part, parse_part, put_part};
+pub use limits::LONG_LIMIT;
 pub use refusal::LongRefusal;
 
 mod cutting;
@@ -35,5 +35,4 @@ mod finding;
 mod joining;
 pub mod laws;
 mod limits;
-mod part;
 mod refusal;

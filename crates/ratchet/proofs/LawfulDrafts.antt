@@ -96,4 +96,4 @@ pub lawful_said : (k : Mechanism) (s : State) (post : Post) (head : State) → I
     IsSendDraft k s (said_of s d) → IsLawfulState k (said_of s d).next)
 unfolding draft_send
 lawful_said k s post head l h of =
-    filled k s head l (said_follows k s (body_of s of.text) of.seed s.phase _ l refl of.gives) h
+    filled k s head l (said_follows k s (body_of s of.content) of.seed s.phase _ l refl of.gives) h

@@ -1,8 +1,9 @@
-//! Drafts of texts that are said.
+//! Drafts of what is said: texts, and parts of long ones.
 
 ghost use Rattle.std.specs.Prelude.{◌≡◌, ◌+◌, ◌-◌, ◌^◌, ◌<◌, ◌≤◌, length, take, [], Some, None, Ok, is_some, option_map, IfOk, IfErr, IfSome, OnErr, OnOk};
 ghost use Rattle.cka.specs.Agreement.{turn_of};
 ghost use Rattle.boxes.specs.Posts.{post_under};
+ghost use Rattle.session_model.specs.Contents.{content_with};
 ghost use Rattle.session_model.specs.Drafts.{IsSendDraft};
 ghost use Rattle.session_model.specs.Saying.{draft_own, draft_send, draft_turn, send_check};
 ghost use Rattle.session_model.specs.LawfulStates.{IsLawfulState};
@@ -14,7 +15,7 @@ use crate::rooms::PacketRoom;
 use crate::sealing::seal_packet;
 use crate::sending::{NoPairFor, SendDraft};
 use crate::session::Session;
-use bodies::{Body, TEXT_KIND};
+use bodies::Body;
 use cka::{Caller, PublicText};
 use dr_base::{INDEX_LIMIT, Key32, LAST_EPOCH, PACKET_LIMIT, Position, RECEIPT_LIMIT, TEXT_LIMIT};
 use fs_aead::SendStream;
@@ -23,31 +24,33 @@ use prf_prng::Root;
 use session_model::{Head, Own, Phase, copy_of_key};
 
 impl<K: Kem> Session<K> {
-    /// Drafts a text that `send_check` allows, with a seed exactly where it asks for one. Its
-    /// packet stands in the room.
+    /// Drafts bytes of a kind that `send_check` allows, a text or a part of a long one, with a seed
+    /// exactly where it asks for one. Their packet stands in the room.
     // Inlined, the draft is built where the caller keeps it.
     #[inline(always)]
     pub fn draft_send<'a>(
         &self,
         work: &mut K::Work,
+        kind: u8,
         text: &[u8],
         seed: Option<Key32>,
         room: &'a mut PacketRoom,
     ) -> Result<SendDraft<'a, K>, NoPairFor>
-        requires { send_check self.now (length text.now) ≡ Ok (is_some seed) }
+        requires { send_check self.now (content_with kind text.now) ≡ Ok (is_some seed) }
         ensures ok { IfOk result (λ draft.
-            draft_send K.mechanism self.now text.now (seed_bytes seed)
+            draft_send K.mechanism self.now (content_with kind text.now) (seed_bytes seed)
             ≡ Some (said_of self.now draft)) }
         ensures draft { IfOk result (λ draft.
             IsSendDraft K.mechanism self.now (said_of self.now draft)) }
         ensures err { OnErr result
-            (draft_send K.mechanism self.now text.now (seed_bytes seed) ≡ None) }
+            (draft_send K.mechanism self.now (content_with kind text.now) (seed_bytes seed)
+            ≡ None) }
         ensures seed { IfErr result (λ e. seed ≡ Some e.seed) }
     {
         let part = &self.part;
         let body = Body {
             receipt: part.receipt(),
-            kind: TEXT_KIND,
+            kind,
             content: text,
         };
         let mut draft = SendDraft {

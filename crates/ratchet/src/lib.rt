@@ -9,6 +9,8 @@
 //! along the stream of its epoch, by a key that was kept when its index was passed, or as the first
 //! one of the next epoch. No memory is allocated.
 //!
+//! A part of a long text is said as a text is, where the format has receipts.
+//!
 //! A text that is said waits for a receipt. In the format `Receipts` each text takes one along, of
 //! the peer's texts that were opened; what an opened packet's receipt covers doesn't wait any more.
 //!
@@ -17,7 +19,7 @@
 //! sessions.
 //!
 //! ```rust
-//! use bodies::Format;
+//! use bodies::{Format, TEXT_KIND};
 //! use dr_base::{Key32, Side};
 //! use kem_laws::OpenKem;
 //! use packet::parse;
@@ -31,8 +33,8 @@
 //! let mut opening = OpeningRoom::new();
 //!
 //! // A text in an epoch of Second's own needs no seed.
-//! if let Ok(false) = second.send_check(5) {
-//!     match second.draft_send(&mut (), b"hello", None, &mut saying) {
+//! if let Ok(false) = second.send_check(TEXT_KIND, b"hello") {
+//!     match second.draft_send(&mut (), TEXT_KIND, b"hello", None, &mut saying) {
 //!         Ok(said) => {
 //!             if let Ok(view) = parse(said.packet(), 64) {
 //!                 match first.draft_receive(&mut (), &view, &mut opening) {

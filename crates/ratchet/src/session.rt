@@ -1,6 +1,7 @@
 //! A session: what one side keeps of a conversation.
 
 ghost use Rattle.std.specs.Prelude.{◌≡◌, ◌↔◌, ◌≤◌, length, IsSome, IsOk, IfOk};
+ghost use Rattle.session_model.specs.Contents.{content_with};
 ghost use Rattle.session_model.specs.Refusals.{refused_as, send_refusal};
 ghost use Rattle.session_model.specs.Saying.{send_check};
 ghost use Rattle.session_model.specs.States.{opening_state};
@@ -9,12 +10,12 @@ ghost use Rattle.session_model.specs.Schedule.{agreement_seed};
 use crate::beginning::begin;
 use bodies::Format;
 use cka::Agreement;
-use dr_base::{
-    INDEX_LIMIT, Key32, LAST_EPOCH, PUBLIC_LIMIT, SECRET_LIMIT, Side, TEXT_LIMIT, in_room,
-};
+use dr_base::{INDEX_LIMIT, Key32, LAST_EPOCH, PUBLIC_LIMIT, SECRET_LIMIT, Side, in_room};
 use fs_aead::Skipped;
 use kem_laws::{Kem, NoPair, laws};
-use session_model::{Awaiting, Head, LentPart, Own, Phase, Reception, SendRefusal, SessionPart};
+use session_model::{
+    Awaiting, Head, LentPart, Own, Phase, Reception, SendRefusal, SessionPart, content_check,
+};
 use std::marker::{Model, PhantomData};
 
 /// One side of a conversation. A contract sees its state.
@@ -111,14 +112,17 @@ impl<K: Kem> Session<K> {
         self.part.lent()
     }
 
-    /// Whether a text of this length may be said, and then whether that needs a seed.
-    pub fn send_check(&self, len: usize) -> Result<bool, SendRefusal>
-        ensures { refused_as send_refusal result ≡ send_check self.now len }
+    /// Whether bytes of a kind may be said, a text or a part of a long one, and then whether that
+    /// needs a seed.
+    pub fn send_check(&self, kind: u8, text: &[u8]) -> Result<bool, SendRefusal>
+        ensures { refused_as send_refusal result
+            ≡ send_check self.now (content_with kind text.now) }
     {
-        if len > TEXT_LIMIT {
-            return Err(SendRefusal::TextTooLong { len });
-        }
         let part = &self.part;
+        match content_check(part.head.format, kind, text) {
+            Err(refusal) => return Err(refusal),
+            Ok(()) => {}
+        }
         match &part.head.phase {
             Phase::Own(own) => {
                 if own.sent >= INDEX_LIMIT {

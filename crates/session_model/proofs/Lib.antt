@@ -1,3 +1,4 @@
+pub mod Checked
 pub mod Latest
 pub mod LawfulKept
 pub mod Leaving
@@ -5,3 +6,4 @@ pub mod Opened
 pub mod Passing
 pub mod Sealed
 pub mod Waiting
+pub mod KeyBytes

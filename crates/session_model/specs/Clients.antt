@@ -1,6 +1,6 @@
 -- One side with its boxes.
-use Rattle.std.specs.Prelude.{Bool, Err, List, None, Ok, Option, Result, Some, [], if◌then◌else◌, length, nat_le, nat_lt, ℕ, ◌++◌, ◌∷◌}
-use Rattle.dr_base.specs.declared.limits.TheConstants.{TEXT_LIMIT, INBOX_LIMIT, OUTBOX_LIMIT}
+use Rattle.std.specs.Prelude.{Bool, Err, List, None, Ok, Option, Result, Some, [], if◌then◌else◌, length, nat_le, ℕ, ◌++◌, ◌∷◌}
+use Rattle.dr_base.specs.declared.limits.TheConstants.{INBOX_LIMIT, OUTBOX_LIMIT}
 use Rattle.boxes.specs.Entries.{Entry, entry_with}
 use Rattle.boxes.specs.Posts.{Post}
 use Rattle.cka.specs.Agreement.{agreement_size}
@@ -9,25 +9,29 @@ use Rattle.kem_laws.specs.Mechanism.{Mechanism}
 use Rattle.packet.specs.Packet.{Fields}
 use Rattle.packet.specs.Reading.{read_packet}
 use Rattle.packet.specs.declared.fault.Malformed.{Malformed}
+use Rattle.session_model.specs.Contents.{Content, content_check, once_checked}
 use Rattle.session_model.specs.Saying.{SendDraft, draft_send, send_check}
 use Rattle.session_model.specs.States.{State}
 use Rattle.session_model.specs.Taking.{ReceiveDraft, draft_receive}
 use Rattle.session_model.specs.declared.answer.Refusal.{Refusal}
-use Rattle.session_model.specs.declared.answer.Refusal.TheVariants.{InboxFull, Malformed as Unreadable, NoPair, OutboxFull, TextTooLong}
+use Rattle.session_model.specs.declared.answer.Refusal.TheVariants.{InboxFull, Malformed as Unreadable, NoPair, OutboxFull}
 use Rattle.session_model.specs.declared.answer.Summary.{Summary}
+use Rattle.session_model.specs.declared.relay_keys.RelayKeys.{RelayKeys}
 
 pub record Client : Type 0 where
   pub state : State
   pub inbox : List Entry
   pub outbox : List Post
+  -- none of a session that was begun before there were any
+  pub relay : Option RelayKeys
 
--- whether a text of this length may be said, and then whether that needs a seed
-abbrev pub say_check : Client → ℕ → Result Bool Refusal
-say_check client len =
-    if nat_lt TEXT_LIMIT len then Err (TextTooLong len)
-    else (if nat_le OUTBOX_LIMIT (length client.outbox) then Err OutboxFull else send_check client.state len)
+-- whether a content may be said, and then whether that needs a seed
+abbrev pub say_check : Client → Content → Result Bool Refusal
+say_check client content =
+    once_checked (content_check client.state.format content)
+    (if nat_le OUTBOX_LIMIT (length client.outbox) then Err OutboxFull else send_check client.state content)
 
--- a text that was said: its packet stands in the outbox
+-- what was said: its packet stands in the outbox
 pub record SaidText : Type 0 where
   pub post : Post
   pub next : Client
@@ -37,9 +41,9 @@ accept_send client None = Err NoPair
 accept_send client (Some draft) =
     Ok (record { post = draft.post; next = record client { state = draft.next; outbox = client.outbox ++ draft.post ∷ [] } })
 
--- what a client answers to a text that passed the check
-abbrev pub say_on : Mechanism → Client → List ℕ → List ℕ → Result SaidText Refusal
-say_on k client text seed = accept_send client (draft_send k client.state text seed)
+-- what a client answers to a content that passed the check
+abbrev pub say_on : Mechanism → Client → Content → List ℕ → Result SaidText Refusal
+say_on k client content seed = accept_send client (draft_send k client.state content seed)
 
 -- a packet that was taken: its text stands in the inbox
 pub record TakenPacket : Type 0 where

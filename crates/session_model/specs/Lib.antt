@@ -1,9 +1,11 @@
 pub mod Schedule
+pub mod BoxKeys
 pub mod Turns
 pub mod Sealing
 pub mod States
 pub mod Awaiting
 pub mod LawfulStates
+pub mod Contents
 pub mod Saying
 pub mod Ways
 pub mod Taking

@@ -3,11 +3,12 @@ use Rattle.std.specs.Prelude.{Result, Ok, Err}
 use Rattle.session_model.specs.declared.answer.Refusal.{Refusal}
 use Rattle.session_model.specs.declared.answer.Refusal.TheVariants as refusal
 use Rattle.session_model.specs.declared.refusals.SendRefusal.{SendRefusal}
-use Rattle.session_model.specs.declared.refusals.SendRefusal.TheVariants.{TextTooLong, EpochFull, LastEpoch}
+use Rattle.session_model.specs.declared.refusals.SendRefusal.TheVariants.{NoParts, TextTooLong, EpochFull, LastEpoch}
 use Rattle.session_model.specs.declared.refusals.ReceiveRefusal.{ReceiveRefusal}
 use Rattle.session_model.specs.declared.refusals.ReceiveRefusal.TheVariants.{OtherSession, OwnPacket, Ahead, Spent, Count, SkipLimit, BadTag, BadPadding}
 
 abbrev pub send_refusal : SendRefusal → Refusal
+send_refusal NoParts = refusal.NoParts
 send_refusal (TextTooLong len) = refusal.TextTooLong len
 send_refusal EpochFull = refusal.EpochFull
 send_refusal LastEpoch = refusal.LastEpoch

@@ -1,12 +1,11 @@
--- What a session answers to a text, and what it keeps once the text is said.
-use Rattle.std.specs.Prelude.{Bool, Err, List, None, Ok, Option, Result, Some, false, if◌then◌else◌, map, nat_le, nat_lt, option_map, true, ℕ, ◌+◌}
-use Rattle.dr_base.specs.declared.limits.TheConstants.{TEXT_LIMIT, INDEX_LIMIT, LAST_EPOCH}
+-- What a session answers to a content, a text or a part of a long one, and what it keeps once that is said.
+use Rattle.std.specs.Prelude.{Bool, Err, List, None, Ok, Option, Result, Some, false, if◌then◌else◌, map, nat_le, option_map, true, ℕ, ◌+◌}
+use Rattle.dr_base.specs.declared.limits.TheConstants.{INDEX_LIMIT, LAST_EPOCH}
 use Rattle.bodies.specs.Bodies.{Body}
 use Rattle.bodies.specs.Formats.{version_of}
 use Rattle.bodies.specs.Receipts.{Receipt, receipt_up_to}
 use Rattle.bodies.specs.declared.format.Format.{Format}
 use Rattle.bodies.specs.declared.format.Format.TheVariants.{Padded, Plain, Receipts}
-use Rattle.boxes.specs.declared.kinds.TheConstants.{TEXT_KIND}
 use Rattle.boxes.specs.Posts.{Post}
 use Rattle.cka.specs.Agreement.{turn_of}
 use Rattle.dr_base.specs.Position.{position_at}
@@ -15,18 +14,20 @@ use Rattle.fs_aead.specs.Chain.{chain_message_key, next_chain}
 use Rattle.kem_laws.specs.Mechanism.{Mechanism}
 use Rattle.prf_prng.specs.Root.{next_root, root_key}
 use Rattle.session_model.specs.Awaiting.{waiting_with}
+use Rattle.session_model.specs.Contents.{Content, content_check, once_checked}
 use Rattle.session_model.specs.Sealing.{posted}
 use Rattle.session_model.specs.States.{Own, Phase, Reception, State, in_own, in_peers, receiving_epoch}
 use Rattle.session_model.specs.declared.answer.Refusal.{Refusal}
-use Rattle.session_model.specs.declared.answer.Refusal.TheVariants.{EpochFull, LastEpoch, TextTooLong}
+use Rattle.session_model.specs.declared.answer.Refusal.TheVariants.{EpochFull, LastEpoch}
 
--- whether a text of this length may be said, and then whether that needs a seed
+-- whether one more may be said, and then whether that needs a seed
 abbrev pub phase_check : ℕ → Phase → Result Bool Refusal
 phase_check epoch (in_own own) = if nat_le INDEX_LIMIT own.sent then Err EpochFull else Ok false
 phase_check epoch (in_peers public) = if nat_le LAST_EPOCH epoch then Err LastEpoch else Ok true
 
-abbrev pub send_check : State → ℕ → Result Bool Refusal
-send_check s len = if nat_lt TEXT_LIMIT len then Err (TextTooLong len) else phase_check s.epoch s.phase
+-- whether a content may be said, and then whether that needs a seed
+abbrev pub send_check : State → Content → Result Bool Refusal
+send_check s content = once_checked (content_check s.format content) (phase_check s.epoch s.phase)
 
 -- how far a session has read the latest epoch of the peer's
 abbrev pub read_up_to : Option ℕ → Option Reception → Option Position
@@ -44,11 +45,12 @@ receipt_in Plain s = None
 receipt_in Padded s = None
 receipt_in Receipts s = receipt_of s
 
--- what it seals of a text: with its receipt, where its format has receipts
-abbrev pub body_of : State → List ℕ → Body
-body_of s text = record { receipt = receipt_in s.format s; kind = TEXT_KIND; content = text }
+-- what it seals: with its receipt, where its format has receipts
+abbrev pub body_of : State → Content → Body
+body_of s content =
+    record { receipt = receipt_in s.format s; kind = content.kind; content = content.bytes }
 
--- a text's packet under its position, and what the session keeps once it is said
+-- a packet under its position, and what the session keeps once its content is said
 pub record SendDraft : Type 0 where
   pub post : Post
   pub next : State
@@ -81,6 +83,6 @@ abbrev pub draft_phase : Mechanism → State → Body → List ℕ → Phase →
 draft_phase k s body seed (in_own own) = Some (draft_own s own body)
 draft_phase k s body seed (in_peers public) = option_map (draft_turn s body) (turn_of k public seed)
 
--- the draft of a text that passed the check, or nothing where the seed has no pair
-unfoldable pub draft_send : Mechanism → State → List ℕ → List ℕ → Option SendDraft
-draft_send k s text seed = draft_phase k s (body_of s text) seed s.phase
+-- the draft of a content that passed the check, or nothing where the seed has no pair
+unfoldable pub draft_send : Mechanism → State → Content → List ℕ → Option SendDraft
+draft_send k s content seed = draft_phase k s (body_of s content) seed s.phase

@@ -33,6 +33,8 @@ pub enum Answer {
 pub enum Which {
     /// This many of the oldest.
     Oldest(Items, u32),
+    /// The parts of the long text of this id, from its inbox.
+    OfId(u32),
 }
 
 impl Which {
@@ -45,6 +47,7 @@ impl Which {
     {
         match self {
             Which::Oldest(_, n) => n > 0,
+            Which::OfId(_) => true,
         }
     }
 }
@@ -74,6 +77,8 @@ pub struct Summary {
 /// Why an event changed nothing.
 #[derive(Clone, Copy, Debug, PartialEq, Eq)]
 pub enum Refusal {
+    /// Only a session with receipts says parts of long texts.
+    NoParts,
     /// The text has more bytes than the longest may have, namely this many.
     TextTooLong(usize),
     /// The outbox is full.
@@ -107,6 +112,8 @@ pub enum Refusal {
     InboxFull,
     /// Only this many stand, fewer than were to be taken out.
     Fewer(u32),
+    /// No part of the long text stands.
+    NoLong,
 }
 
 /// How many of the oldest items are taken out of a box.

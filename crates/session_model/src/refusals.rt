@@ -4,9 +4,12 @@ use crate::answer::Refusal;
 use dr_base::{INDEX_LIMIT, KEPT_LIMIT, Position, TEXT_LIMIT};
 use thiserror::Error;
 
-/// Why a session says no text.
+/// Why a session says no text, or no part of a long one.
 #[derive(Clone, Copy, Debug, PartialEq, Eq, Error)]
 pub enum SendRefusal {
+    /// Only a session with receipts says parts of long texts.
+    #[error("a session without receipts says no part of a long text")]
+    NoParts,
     /// The text has more bytes than the longest may have.
     #[error("the text has {len} bytes, more than {TEXT_LIMIT}")]
     TextTooLong { len: usize },
@@ -56,6 +59,7 @@ impl From<SendRefusal> for Refusal {
 
     fn from(refusal: SendRefusal) -> Refusal {
         match refusal {
+            SendRefusal::NoParts => Refusal::NoParts,
             SendRefusal::TextTooLong { len } => Refusal::TextTooLong(len),
             SendRefusal::EpochFull => Refusal::EpochFull,
             SendRefusal::LastEpoch => Refusal::LastEpoch,

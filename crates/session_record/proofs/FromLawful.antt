@@ -20,7 +20,7 @@ use Rattle.session_record.specs.Lists.{is_post, is_posted, place_of, post_of}
 use Rattle.session_record.proofs.Passing.{Passes, PassesEntry, PassesPhase, PassesPost}
 use Rattle.session_record.specs.Lawful.{IsLawfulEntry, IsLawfulPost, IsLawfulSaved, IsPostOf}
 use Rattle.session_record.specs.Record.{Saved}
-use Rattle.session_record.specs.Versions.{inbox_most, kept_most, outbox_most, text_most}
+use Rattle.session_record.specs.Versions.{inbox_most, is_kind_of, kept_most, outbox_most, text_most}
 use Rattle.session_record.specs.declared.versions.Version.{Version}
 use Rattle.session_record.proofs.Waiting.{awaiting-passes}
 use Rattle.session_record.proofs.KeptFromLawful.{AreKeys, received}
@@ -64,13 +64,14 @@ epoch_part epoch fits = grind (arith, nat_tests)
 -- ---- the boxes
 
 entry_passes : (version : Version) (s : State) (before : List Entry) (entry : Entry) → s.epoch ≤ LAST_EPOCH
-    → length entry.text ≤ text_most version → IsLawfulEntry s entry → PassesEntry version s.side s.epoch before entry
-entry_passes version s before entry fits short l = record {
+    → is_kind_of version entry.kind ≡ true → length entry.text ≤ text_most version → IsLawfulEntry s entry → PassesEntry version s.side s.epoch before entry
+entry_passes version s before entry fits kind short l = record {
   epoch_is = and_from _ _ (not_from_false _ l.peers) (le-leb _ _ l.reached);
   epoch_fits = omega (arith, l.reached);
   index_is = and_from _ _ (le-leb 1 entry.position.index l.from_one) (le-leb entry.position.index INDEX_LIMIT l.most);
-  kind_is = l.kind;
+  kind_is = kind;
   short = le-leb (length entry.text) (text_most version) short;
+  content = l.content;
 }
 
 post_passes : (k : Mechanism) (version : Version) (s : State) (before : List Post) (one : Post) → IsLawfulPost k s one
@@ -115,10 +116,11 @@ passes k saved l =
       boxes = record {
         few_entries = le-leb (length c.inbox) (inbox_most version) l.fits.few_entries;
         inbox = items-from (PassesEntry version c.state.side c.state.epoch) c.inbox no_entry (λ i d inside.
-            entry_passes version c.state (take i c.inbox) (get_or c.inbox i d) s.epoch_fits (l.fits.short_texts i d inside) (l.client.inbox i d inside));
+            entry_passes version c.state (take i c.inbox) (get_or c.inbox i d) s.epoch_fits (l.fits.kinds i d inside) (l.fits.short_texts i d inside) (l.client.inbox i d inside));
         few_posts = le-leb (length c.outbox) (outbox_most version) l.fits.few_posts;
         outbox = items-from (PassesPost k version c.state.session c.state.side c.state.epoch) c.outbox no_post (λ i d inside.
             post_passes k version c.state (take i c.outbox) (get_or c.outbox i d) (l.client.outbox i d inside) (l.fits.posts i d inside));
       };
       awaiting = awaiting-passes (has_receipts version) c.state.side c.state.epoch c.state.phase c.state.awaiting s.epoch_fits l.fits.awaiting s.waiting;
+      relay = record { long = l.client.relay; allowed = l.fits.relay };
     }

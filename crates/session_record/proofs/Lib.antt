@@ -12,5 +12,7 @@ mod FromLawful
 mod KeptToLawful
 mod ToLawful
 mod RecordLaw
+mod RelayGrammar
+mod OtherTexts
 mod Places
 mod Sizes

@@ -1,7 +1,7 @@
 -- The values that pass the tests of the record's reader, field by field.
-use Rattle.std.specs.Prelude.{◌≡◌, ℕ, ◌^◌, ◌<◌, Bool, true, false, List, [], length}
+use Rattle.std.specs.Prelude.{◌≡◌, ℕ, ◌^◌, ◌<◌, Bool, true, false, List, [], Option, length}
 use Rattle.boxes.specs.Entries.{Entry}
-use Rattle.boxes.specs.declared.kinds.TheConstants.{TEXT_KIND}
+use Rattle.boxes.specs.Parts.{is_content}
 use Rattle.boxes.specs.Posts.{Post}
 use Rattle.cka.specs.Agreement.{agreement_size}
 use Rattle.dr_base.specs.Position.{is_own}
@@ -12,14 +12,16 @@ use Rattle.dr_base.specs.declared.position.Side.{Side}
 use Rattle.grammar.specs.Printer.{AreItems, IsEither, IsMaybe}
 use Rattle.kem_laws.specs.Mechanism.{Mechanism}
 use Rattle.packet.specs.Packet.{agreement_len}
+use Rattle.session_model.specs.BoxKeys.{HasLongKeys}
 use Rattle.session_model.specs.States.{Own, Phase, Reception}
+use Rattle.session_model.specs.declared.relay_keys.RelayKeys.{RelayKeys}
 use Rattle.session_record.specs.Awaiting.{is_waiting_epoch, is_waiting_index, last_waiting, sent_of}
 use Rattle.session_record.specs.Fields.{has_receiving, is_previous, is_secret, of_phase, up_to}
 use Rattle.session_record.specs.Lists.{is_kept_epoch, is_kept_index, is_peers, is_post, last_position, post_of, reach_of}
 use Rattle.packet.specs.Reading.{is_index}
 use Rattle.session_record.specs.Groups.{Boxes, Keys}
 use Rattle.session_record.specs.Record.{Saved, boxes_in, heading_in, keys_in}
-use Rattle.session_record.specs.Versions.{IsFormatOf, has_receipts, inbox_most, kept_most, outbox_most, text_most}
+use Rattle.session_record.specs.Versions.{IsFormatOf, IsKeysOf, has_receipts, inbox_most, is_kind_of, kept_most, outbox_most, text_most}
 use Rattle.session_record.specs.declared.groups.Heading.{Heading}
 use Rattle.session_record.specs.declared.versions.Version.{Version}
 
@@ -48,8 +50,9 @@ pub record PassesEntry (version : Version) (side : Side) (epoch : ℕ) (before :
   pub epoch_is : is_peers side epoch entry.position.epoch ≡ true
   pub epoch_fits : entry.position.epoch < 2 ^ 32
   pub index_is : is_index entry.position.index ≡ true
-  pub kind_is : entry.kind ≡ TEXT_KIND
+  pub kind_is : is_kind_of version entry.kind ≡ true
   pub short : up_to (text_most version) (length entry.text) ≡ true
+  pub content : is_content entry.kind entry.text ≡ true
 
 pub record PassesPost (k : Mechanism) (version : Version) (session : List ℕ) (side : Side) (epoch : ℕ) (before : List Post) (one : Post) : Type 0 where
   pub post : is_post k version session side epoch one.packet ≡ true
@@ -67,6 +70,11 @@ pub record PassesAwaiting (there : Bool) (side : Side) (epoch sent : ℕ) (await
   pub allowed : there ≡ false → awaiting ≡ []
   pub few : up_to AWAITING_LIMIT (length awaiting) ≡ true
   pub each : AreItems (PassesWaiting side epoch sent) (length awaiting) awaiting
+
+-- keys that a version has
+pub record PassesRelay (version : Version) (keys : Option RelayKeys) : Type 0 where
+  pub long : HasLongKeys keys
+  pub allowed : IsKeysOf version keys
 
 -- ---- the groups
 
@@ -94,3 +102,4 @@ pub record Passes (k : Mechanism) (s : Saved) : Type 0 where
   pub keys : PassesKeys k (heading_in s.version s.client.state) (keys_in s.client.state)
   pub boxes : PassesBoxes k (heading_in s.version s.client.state) (boxes_in s.client)
   pub awaiting : PassesAwaiting (has_receipts s.version) s.client.state.side s.client.state.epoch (sent_of s.client.state.phase) s.client.state.awaiting
+  pub relay : PassesRelay s.version s.client.relay

@@ -18,12 +18,16 @@ use Rattle.packet.specs.declared.fault.Malformed.{Malformed}
 use Rattle.packet.proofs.Known.{text_few}
 use Rattle.packet.proofs.Lengths.{length-packet_of}
 use Rattle.packet.proofs.Read.{read_was_printed}
-use Rattle.session_record.specs.declared.limits.TheConstants.{COUNT_SIZE, ENTRIES_LIMIT, ENTRY_LIMIT, HEADING_SIZE, KEPT_SIZE, KEYS_LIMIT, PHASE_LIMIT, POSTS_LIMIT, POST_LIMIT, RECORD_LIMIT, PLACE_SIZE, STREAM_SIZE, WAITING_LIMIT}
+use Rattle.session_model.specs.BoxKeys.{relay_keys_at}
+use Rattle.session_model.specs.declared.relay_keys.TheConstants.{RELAY_KEYS_SIZE}
+use Rattle.session_record.specs.declared.limits.TheConstants.{COUNT_SIZE, ENTRIES_LIMIT, ENTRY_LIMIT, HEADING_SIZE, KEPT_SIZE, KEYS_LIMIT, PHASE_LIMIT, POSTS_LIMIT, POST_LIMIT, RECORD_LIMIT, RELAY_LIMIT, PLACE_SIZE, STREAM_SIZE, WAITING_LIMIT}
 use Rattle.session_record.specs.Awaiting.{awaiting_field, awaiting_of, is_waiting_epoch, is_waiting_index, last_waiting, sent_of, waiting_behind, waiting_item}
 use Rattle.session_record.specs.Fields.{count_field, epoch_field, is_secret, own_fields, phase_field, previous_field, receiving_field, reception_fields, side_field, format_byte, format_field, format_at, format_of, is_format, up_to, own_of, phase_of, reception_of, version_field, is_side, side_at, is_previous, has_receiving}
-use Rattle.session_record.specs.Lists.{any, any_length, entry_field, entry_of, inbox_field, kind_field, kind_told, is_kept_epoch, is_kept_index, is_peers, is_post, is_posted, is_text_kind, kept_behind, kept_field, kept_item, kept_of, last_position, outbox_field, post_field, post_of, reach_of}
+use Rattle.boxes.specs.Parts.{is_content}
+use Rattle.session_record.specs.Lists.{any_length, entry_field, entry_of, inbox_field, kind_field, kind_told, is_kept_epoch, is_kept_index, is_peers, is_post, is_posted, kept_behind, kept_field, kept_item, kept_of, last_position, outbox_field, post_field, post_of, reach_of}
 use Rattle.session_record.specs.Groups.{boxes_fields, boxes_of, heading_fields, heading_of, keys_fields, keys_of}
-use Rattle.session_record.specs.Versions.{has_format, has_kinds, has_receipts, inbox_most, is_version, kept_most, outbox_most, text_most, version_at}
+use Rattle.session_record.specs.Relay.{flagged_keys, is_flag, keys_told, relay_field, relay_keys_field}
+use Rattle.session_record.specs.Versions.{has_format, has_keys, has_kinds, has_receipts, inbox_most, is_kind_of, is_version, kept_most, outbox_most, text_most, version_at}
 use Rattle.session_record.specs.declared.groups.Heading.{Heading}
 use Rattle.session_record.specs.declared.versions.Version.{Version}
 use Rattle.session_record.proofs.VersionLimits.{inbox-limit, kept-limit, outbox-limit, text-limit}
@@ -80,10 +84,10 @@ within-inbox version side epoch =
     within-mapped ENTRY_LIMIT entry_of _
     (within-both _ _ _ _ (within-checked _ (is_peers side epoch) (number w32) (within-number w32)) (λ _.
     within-both _ _ _ _ (within-checked _ is_index (number w32) (within-number w32)) (λ _.
-    within-both _ _ _ _ (within-mapped _ kind_told _ (within-maybe _ (has_kinds version) _ (within-checked _ is_text_kind (number w8) (within-number w8)))) (λ _.
+    within-both _ _ _ _ (within-mapped _ kind_told _ (within-maybe _ (has_kinds version) _ (within-checked _ (is_kind_of version) (number w8) (within-number w8)))) (λ kind.
     within-mapped _ (λ e. e.1) _
-    (within-numbered w16 (up_to (text_most version)) TEXT_LIMIT (λ n. checked any (piece n)) (λ n short.
-    within-checked TEXT_LIMIT any (piece n)
+    (within-numbered w16 (up_to (text_most version)) TEXT_LIMIT (λ n. checked (is_content kind) (piece n)) (λ n short.
+    within-checked TEXT_LIMIT (is_content kind) (piece n)
     (within-more n TEXT_LIMIT (piece n) (omega (arith, leb-true n (text_most version) short, text-limit version)) (within-piece n)))))))))
 
 -- a packet that was read is short
@@ -120,6 +124,16 @@ within-awaiting version side epoch sent =
     within-mapped PLACE_SIZE listed_place _
     (within-both _ _ _ _ (within-checked _ (is_waiting_epoch side epoch (last_waiting before)) (number w32) (within-number w32)) (λ t.
     within-checked _ (is_waiting_index epoch sent (last_waiting before) t) (number w32) (within-number w32))))))
+
+within-relay : (version : Version) → IsWithin RELAY_LIMIT (relay_field version)
+unfolding relay_field flagged_keys relay_keys_field
+within-relay version =
+    within-mapped RELAY_LIMIT keys_told _
+    (within-maybe RELAY_LIMIT (has_keys version) _
+    (within-mapped RELAY_LIMIT (λ e. e.1) _
+    (within-both _ _ _ _ (within-checked _ is_flag (number w8) (within-number w8)) (λ flag.
+    within-maybe RELAY_KEYS_SIZE (flag == 1) _
+    (within-mapped RELAY_KEYS_SIZE relay_keys_at _ (within-piece RELAY_KEYS_SIZE))))))
 
 -- ---- the groups
 
@@ -160,8 +174,9 @@ within-record k law =
     within-mapped RECORD_LIMIT saved_of (record_fields k)
     (within-both HEADING_SIZE _ _ _ within-heading (λ heading.
     within-both (PHASE_LIMIT + (COUNT_SIZE + (STREAM_SIZE + KEYS_LIMIT))) _ _ _ (within-keys k heading law) (λ keys.
-    within-both (ENTRIES_LIMIT + POSTS_LIMIT) WAITING_LIMIT _ _ (within-boxes k heading law) (λ _.
-    within-awaiting heading.version heading.side heading.epoch (sent_of keys.phase)))))
+    within-both (ENTRIES_LIMIT + POSTS_LIMIT) _ _ _ (within-boxes k heading law) (λ _.
+    within-both WAITING_LIMIT RELAY_LIMIT _ _ (within-awaiting heading.version heading.side heading.epoch (sent_of keys.phase)) (λ _.
+    within-relay heading.version)))))
 
 fault_within : {A : Type 0} (most : ℕ) (r : Result (Read A) ℕ) (at : ℕ) → EndsBy most r → ended r ≡ Err at → at ≤ most
 fault_within most (Err fault) at ends is = let same : fault ≡ at = cc in omega (arith, ends)

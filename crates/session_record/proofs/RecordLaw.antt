@@ -6,13 +6,14 @@ use Rattle.kem_laws.specs.Mechanism.{Mechanism}
 use Rattle.session_model.specs.Clients.{Client}
 use Rattle.session_record.specs.Lawful.{FitsVersion, IsLawfulClient, IsLawfulSaved}
 use Rattle.session_record.specs.Record.{Saved, record_read, record_text, saved_read, saved_text, without_version}
+use Rattle.boxes.proofs.Contents.{content_fits}
 use Rattle.session_record.specs.Versions.{is_newest, newest, version_code}
 use Rattle.session_record.specs.declared.versions.Version.{Version}
-use Rattle.session_record.specs.declared.versions.Version.TheVariants.{One, Two, Three, Four}
+use Rattle.session_record.specs.declared.versions.Version.TheVariants.{One, Two, Three, Four, Five}
 use Rattle.session_record.proofs.FromLawful.{passes}
 use Rattle.session_record.proofs.RecordGrammar.{passing_grammar}
 use Rattle.session_record.proofs.ToLawful.{lawful}
-use Rattle.session_record.proofs.VersionLimits.{format-newest, inbox-newest, is-newest, kept-newest, outbox-newest, packet-newest, text-newest}
+use Rattle.session_record.proofs.VersionLimits.{format-newest, inbox-newest, is-newest, kept-newest, kind-newest, outbox-newest, packet-newest, text-newest}
 
 -- in each version
 pub saved_grammar : (k : Mechanism) → IsWholeGrammar saved_text (IsLawfulSaved k) (saved_read k)
@@ -29,10 +30,13 @@ fits-newest k c l = record {
   format = format-newest c.state.format;
   few_kept = omega (arith, l.state.few, kept-newest);
   few_entries = omega (arith, l.few_entries, inbox-newest);
-  short_texts = λ i d inside. omega (arith, (l.inbox i d inside).short, text-newest);
+  kinds = λ i d inside. let entry = get_or c.inbox i d in kind-newest entry.kind entry.text (l.inbox i d inside).content;
+  short_texts = λ i d inside. let entry = get_or c.inbox i d in
+      omega (arith, content_fits entry.kind entry.text (l.inbox i d inside).content, text-newest);
   few_posts = omega (arith, l.few_posts, outbox-newest);
   posts = λ i d inside f reads. packet-newest f;
   awaiting = λ without. absurd (let e : true ≡ false = without in cc);
+  relay = λ without. absurd (let e : true ≡ false = without in cc);
 }
 
 -- what is written is read as it
@@ -55,6 +59,7 @@ first-byte One c = refl
 first-byte Two c = refl
 first-byte Three c = refl
 first-byte Four c = refl
+first-byte Five c = refl
 
 pub newest-byte : (c : Client) → is_newest (record_text c) ≡ true
 unfolding record_text

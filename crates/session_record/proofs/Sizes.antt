@@ -16,6 +16,7 @@ use Rattle.dr_base.specs.declared.position.Side.{Side}
 use Rattle.grammar.specs.Printer.{print_counted, print_items, print_maybe}
 use Rattle.grammar.proofs.Printing.{print-next, size-items}
 use Rattle.kem_laws.specs.Mechanism.{IsLawfulMechanism, Mechanism}
+use Rattle.session_model.specs.BoxKeys.{HasLongKeys}
 use Rattle.session_model.specs.Clients.{Client}
 use Rattle.session_model.proofs.Leaving.{all_packets, all_texts, fewer_packets, fewer_texts}
 use Rattle.session_model.specs.LawfulStates.{IsLawfulPhase, IsLawfulReception, IsLawfulState}
@@ -29,8 +30,10 @@ use Rattle.session_record.specs.Fields.{phase_text, reception_text}
 use Rattle.session_record.specs.Groups.{Keys, boxes_text, heading_text, keys_text}
 use Rattle.session_record.specs.Lists.{entry_text, kept_text, post_of, post_text}
 use Rattle.session_record.specs.Record.{boxes_in, heading_in, keys_in, record_text, saved_text}
+use Rattle.session_record.specs.Relay.{relay_text}
 use Rattle.session_record.specs.Versions.{newest}
 use Rattle.session_record.proofs.Places.{message_fits}
+use Rattle.session_record.proofs.RelayGrammar.{size-relay}
 
 -- ---- the pieces of a text
 
@@ -43,7 +46,10 @@ keys_bytes c = keys_text (keys_in c.state)
 abbrev pub waiting_bytes : Client → List ℕ
 waiting_bytes c = awaiting_text newest c.state.awaiting
 
-pub text_pieces : (c : Client) → record_text c ≡ heading_bytes c ++ (keys_bytes c ++ (boxes_text newest (boxes_in c) ++ waiting_bytes c))
+abbrev pub relay_bytes_of : Client → List ℕ
+relay_bytes_of c = relay_text newest c.relay
+
+pub text_pieces : (c : Client) → record_text c ≡ heading_bytes c ++ (keys_bytes c ++ (boxes_text newest (boxes_in c) ++ (waiting_bytes c ++ relay_bytes_of c)))
 unfolding record_text saved_text
 text_pieces c = refl
 
@@ -57,17 +63,20 @@ keys_size keys =
     omega (arith, length-append phase (previous ++ (receiving ++ kept)), length-append previous (receiving ++ kept), length-append receiving kept)
 
 pub text_size : (c : Client) → length (record_text c) ≡ length (heading_bytes c) + (length (keys_bytes c)
-    + (length (print_counted w8 (entry_text newest) c.inbox) + length (print_counted w8 post_text c.outbox) + length (waiting_bytes c)))
+    + (length (print_counted w8 (entry_text newest) c.inbox) + length (print_counted w8 post_text c.outbox)
+    + (length (waiting_bytes c) + length (relay_bytes_of c))))
 text_size c =
     let inbox = print_counted w8 (entry_text newest) c.inbox in
     let outbox = print_counted w8 post_text c.outbox in
     let waiting = waiting_bytes c in
+    let relay = relay_bytes_of c in
     omega (
       arith,
       ap (λ (l : List ℕ). length l) (text_pieces c),
-      length-append (heading_bytes c) (keys_bytes c ++ ((inbox ++ outbox) ++ waiting)),
-      length-append (keys_bytes c) ((inbox ++ outbox) ++ waiting),
-      length-append (inbox ++ outbox) waiting,
+      length-append (heading_bytes c) (keys_bytes c ++ ((inbox ++ outbox) ++ (waiting ++ relay))),
+      length-append (keys_bytes c) ((inbox ++ outbox) ++ (waiting ++ relay)),
+      length-append (inbox ++ outbox) (waiting ++ relay),
+      length-append waiting relay,
       length-append inbox outbox,
     )
 
@@ -142,10 +151,10 @@ size-awaiting awaiting = omega (arith, length-positions awaiting)
 
 -- a client of which this is known has a text of at most RECORD_LIMIT bytes
 pub text-fits : (k : Mechanism) (c : Client) → IsLawfulMechanism k → IsLawfulState k c.state → All (λ (one : Kept). length one.key.bytes ≡ 32) c.state.kept
-    → IsRoomyInbox c.inbox → IsRoomyOutbox c.outbox → length (record_text c) ≤ RECORD_LIMIT
-text-fits k c law l long inbox outbox =
+    → IsRoomyInbox c.inbox → IsRoomyOutbox c.outbox → HasLongKeys c.relay → length (record_text c) ≤ RECORD_LIMIT
+text-fits k c law l long inbox outbox relay =
     let s = c.state in
-    omega (arith, text_size c, keys_size (keys_in s), size-heading s l.session_long l.root_long, size-phase k s.side s.epoch s.phase law l.phase, size-receiving s.kept s.receiving (receiving_epoch s.side s.epoch) l.receiving, size-kept s.kept long l.few, size-inbox c.inbox inbox, size-outbox c.outbox outbox, size-awaiting s.awaiting, l.waiting.few)
+    omega (arith, text_size c, keys_size (keys_in s), size-heading s l.session_long l.root_long, size-phase k s.side s.epoch s.phase law l.phase, size-receiving s.kept s.receiving (receiving_epoch s.side s.epoch) l.receiving, size-kept s.kept long l.few, size-inbox c.inbox inbox, size-outbox c.outbox outbox, size-awaiting s.awaiting, l.waiting.few, size-relay c.relay relay)
 
 -- ---- after a change
 

@@ -25,7 +25,7 @@ use Rattle.session_record.specs.Lists.{is_peers, is_post, is_posted, last_positi
 use Rattle.session_record.proofs.Passing.{Passes, PassesEntry, PassesKept, PassesPhase, PassesPost, PassesReception}
 use Rattle.session_record.specs.Lawful.{FitsVersion, IsLawfulEntry, IsLawfulPost, IsLawfulSaved, IsPostOf}
 use Rattle.session_record.specs.Record.{Saved}
-use Rattle.session_record.specs.Versions.{has_receipts, inbox_most, is_packet_of, kept_most, outbox_most, text_most}
+use Rattle.session_record.specs.Versions.{has_receipts, inbox_most, is_kind_of, is_packet_of, kept_most, outbox_most, text_most}
 use Rattle.session_record.specs.declared.versions.Version.{Version}
 use Rattle.session_record.proofs.VersionLimits.{inbox-limit, kept-limit, outbox-limit, text-limit}
 use Rattle.session_record.proofs.Waiting.{are-waiting}
@@ -90,8 +90,7 @@ lawful_entry version s before entry l =
       reached = leb-true t s.epoch peers.1;
       from_one = leb-true 1 entry.position.index index.0;
       most = leb-true entry.position.index INDEX_LIMIT index.1;
-      kind = l.kind_is;
-      short = omega (arith, leb-true (length entry.text) (text_most version) l.short, text-limit version);
+      content = l.content;
     }
 
 lawful_post : (k : Mechanism) (version : Version) (s : State) (before : List Post) (post : Post)
@@ -146,12 +145,15 @@ fits_version k saved l =
       format = l.heading.format;
       few_kept = leb-true (length c.state.kept) (kept_most version) l.keys.few_kept;
       few_entries = leb-true (length c.inbox) (inbox_most version) l.boxes.few_entries;
+      kinds = each_of (PassesEntry version c.state.side c.state.epoch) (λ entry. is_kind_of version entry.kind ≡ true)
+          (λ before entry passes. passes.kind_is) (length c.inbox) c.inbox l.boxes.inbox;
       short_texts = each_of (PassesEntry version c.state.side c.state.epoch) (λ entry. length entry.text ≤ text_most version)
           (λ before entry passes. leb-true (length entry.text) (text_most version) passes.short) (length c.inbox) c.inbox l.boxes.inbox;
       few_posts = leb-true (length c.outbox) (outbox_most version) l.boxes.few_posts;
       posts = each_of (PassesPost k version c.state.session c.state.side c.state.epoch) (IsPostOf k version) (post_of_version k version c.state)
           (length c.outbox) c.outbox l.boxes.outbox;
       awaiting = l.awaiting.allowed;
+      relay = l.relay.allowed;
     }
 
 lawful_state : (k : Mechanism) (saved : Saved) → Passes k saved → IsLawfulState k saved.client.state
@@ -188,6 +190,7 @@ lawful k saved l =
         few_entries = omega (arith, fits.few_entries, inbox-limit version);
         outbox = each_of (PassesPost k version s.session s.side s.epoch) (IsLawfulPost k s) (lawful_post k version s) (length c.outbox) c.outbox l.boxes.outbox;
         few_posts = omega (arith, fits.few_posts, outbox-limit version);
+        relay = l.relay.long;
       };
       fits = fits;
     }

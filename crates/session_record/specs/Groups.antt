@@ -1,6 +1,6 @@
 -- The groups that a record consists of, each as its fields in their order and as their text: the
 -- heading, the keys, the boxes. What the heading says is handed to the others, the version too.
--- After them stand the texts that wait (`Awaiting`).
+-- After them stand the texts that wait (`Awaiting`), and the keys of the session's boxes (`Relay`).
 use Rattle.std.specs.Prelude.{ℕ, List, ◌++◌, Option}
 use Rattle.std.specs.Int.{w8, w16, w32, to_be_bytes}
 use Rattle.bodies.specs.declared.format.Format.{Format}

@@ -2,6 +2,7 @@ pub mod Versions
 pub mod Fields
 pub mod Lists
 pub mod Awaiting
+pub mod Relay
 pub mod Groups
 pub mod Record
 pub mod Lawful

@@ -5,7 +5,7 @@ use Rattle.session_record.specs.declared.versions.TheConstants.{FIRST_INBOX_LIMI
 
 pub record HasLimits : Type 0 where
   -- bytes of a record
-  pub record_size : RECORD_LIMIT ≡ 770688
+  pub record_size : RECORD_LIMIT ≡ 770817
   -- in version 1: the bytes of a text, kept keys, texts of an inbox, packets of an outbox
   pub first_text : FIRST_TEXT_LIMIT ≡ 1024
   pub first_kept : FIRST_KEPT_LIMIT ≡ 256

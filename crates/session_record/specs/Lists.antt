@@ -3,8 +3,9 @@ use Rattle.std.specs.Prelude.{ℕ, ◌+◌, ◌==◌, ◌&&◌, ◌||◌, Bool, 
 use Rattle.std.specs.Int.{w8, w16, w32, to_be_bytes}
 use Rattle.std.specs.Str.{bytes_eq}
 use Rattle.boxes.specs.Entries.{Entry, entry_with}
-use Rattle.boxes.specs.declared.kinds.TheConstants.{TEXT_KIND}
+use Rattle.boxes.specs.Parts.{is_content}
 use Rattle.boxes.specs.Posts.{Post, post_under}
+use Rattle.boxes.specs.declared.kinds.TheConstants.{TEXT_KIND}
 use Rattle.cka.specs.Agreement.{agreement_size}
 use Rattle.dr_base.specs.Position.{is_own, position_at}
 use Rattle.dr_base.specs.declared.key.Kept.{Kept}
@@ -19,7 +20,7 @@ use Rattle.packet.specs.Packet.{Fields}
 use Rattle.packet.specs.Reading.{read_packet, is_index}
 pub use Rattle.record_fields.specs.Fields.{reach_of}
 use Rattle.session_record.specs.Fields.{up_to}
-use Rattle.session_record.specs.Versions.{has_kinds, inbox_most, is_packet_of, kept_most, outbox_most, text_most}
+use Rattle.session_record.specs.Versions.{has_kinds, inbox_most, is_kind_of, is_packet_of, kept_most, outbox_most, text_most}
 use Rattle.session_record.specs.declared.versions.Version.{Version}
 
 -- ---- kept keys, each above the one before
@@ -77,10 +78,8 @@ kept_text kept =
     to_be_bytes w32 kept.position.epoch
     ++ (to_be_bytes w32 kept.position.index ++ kept.key.bytes)
 
--- ---- the inbox: position, kind where the version has a byte for it, and text after its length
-
-abbrev pub is_text_kind : ℕ → Bool
-is_text_kind n = n == TEXT_KIND
+-- ---- the inbox: position, kind where the version has a byte for it, and text after its length,
+-- which is a content of that kind
 
 -- without a byte for it, it is a text's
 abbrev pub kind_told : Option ℕ → ℕ
@@ -89,16 +88,13 @@ kind_told (Some kind) = kind
 
 unfoldable pub kind_field : Version → Reader ℕ
 kind_field version =
-    mapped kind_told (maybe (has_kinds version) (checked is_text_kind (number w8)))
+    mapped kind_told (maybe (has_kinds version) (checked (is_kind_of version) (number w8)))
 
 abbrev pub told_kind : Version → ℕ → Option ℕ
 told_kind version kind = if has_kinds version then Some kind else None
 
 abbrev pub kind_text : Version → ℕ → List ℕ
 kind_text version kind = print_maybe (to_be_bytes w8) (told_kind version kind)
-
-abbrev pub any : List ℕ → Bool
-any bytes = true
 
 abbrev pub entry_of : ℕ × (ℕ × (ℕ × List ℕ)) → Entry
 entry_of e = entry_with (position_at e.0 e.1.0) e.1.1.0 e.1.1.1
@@ -111,8 +107,8 @@ entry_field version side epoch =
     mapped entry_of
     (both (checked (is_peers side epoch) (number w32)) (λ _.
     both (checked is_index (number w32)) (λ _.
-    both (kind_field version) (λ _.
-    sized w16 (up_to (text_most version)) any))))
+    both (kind_field version) (λ kind.
+    sized w16 (up_to (text_most version)) (is_content kind)))))
 
 unfoldable pub inbox_field : Version → Side → ℕ → Reader (List Entry)
 inbox_field version side epoch =

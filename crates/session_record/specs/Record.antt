@@ -1,6 +1,7 @@
--- The record of a client: what its session keeps, its inbox and its outbox, as one text. Numbers
--- are big-endian, and no field has a choice: in each version a client has one text.
-use Rattle.std.specs.Prelude.{ℕ, List, ◌++◌, Result, Ok, Err}
+-- The record of a client: what its session keeps, its inbox and its outbox, and the keys of its
+-- boxes at a relay, as one text. Numbers are big-endian, and no field has a choice: in each version
+-- a client has one text.
+use Rattle.std.specs.Prelude.{ℕ, List, ◌++◌, Option, Result, Ok, Err}
 use Rattle.boxes.specs.Entries.{Entry}
 use Rattle.boxes.specs.Posts.{Post}
 use Rattle.dr_base.specs.declared.position.Position.{Position}
@@ -8,25 +9,28 @@ use Rattle.grammar.specs.Reader.{Reader, mapped, both, whole}
 use Rattle.kem_laws.specs.Mechanism.{Mechanism}
 use Rattle.session_model.specs.Clients.{Client}
 use Rattle.session_model.specs.States.{State}
+use Rattle.session_model.specs.declared.relay_keys.RelayKeys.{RelayKeys}
 use Rattle.session_record.specs.Awaiting.{awaiting_field, awaiting_text, sent_of}
 use Rattle.session_record.specs.Groups.{Boxes, Keys, boxes_fields, boxes_text, heading_fields, heading_text, keys_fields, keys_text}
+use Rattle.session_record.specs.Relay.{relay_field, relay_text}
 use Rattle.session_record.specs.Versions.{newest}
 use Rattle.session_record.specs.declared.groups.Heading.{Heading}
 use Rattle.session_record.specs.declared.versions.Version.{Version}
 
 -- a client from its parts in code
-abbrev pub client_of : State → List Entry → List Post → Client
-client_of state inbox outbox = record { state = state; inbox = inbox; outbox = outbox }
+abbrev pub client_of : State → List Entry → List Post → Option RelayKeys → Client
+client_of state inbox outbox relay =
+    record { state = state; inbox = inbox; outbox = outbox; relay = relay }
 
 -- a client in a version
 pub record Saved : Type 0 where
   pub version : Version
   pub client : Client
 
--- ---- its groups, and the texts that wait
+-- ---- its groups, the texts that wait, and the keys of its boxes
 
 abbrev pub Groups : Type 0
-Groups = Heading × (Keys × (Boxes × List Position))
+Groups = Heading × (Keys × (Boxes × (List Position × Option RelayKeys)))
 
 abbrev pub heading_in : Version → State → Heading
 heading_in version s = record {
@@ -47,8 +51,10 @@ boxes_in c = record { inbox = c.inbox; outbox = c.outbox }
 
 abbrev pub of_saved : Saved → Groups
 of_saved s =
-    let state = s.client.state in
-    (heading_in s.version state, (keys_in state, (boxes_in s.client, state.awaiting)))
+    let state = s.client.state in (
+      heading_in s.version state,
+      (keys_in state, (boxes_in s.client, (state.awaiting, s.client.relay))),
+    )
 
 abbrev pub state_of_groups : Heading → Keys → List Position → State
 state_of_groups h keys awaiting = record {
@@ -67,8 +73,12 @@ state_of_groups h keys awaiting = record {
 abbrev pub saved_of : Groups → Saved
 saved_of g =
     let boxes = g.1.1.0 in
-    let state = state_of_groups g.0 g.1.0 g.1.1.1 in
-    record { version = g.0.version; client = client_of state boxes.inbox boxes.outbox }
+    let behind = g.1.1.1 in
+    let state = state_of_groups g.0 g.1.0 behind.0 in
+    record {
+      version = g.0.version;
+      client = client_of state boxes.inbox boxes.outbox behind.1;
+    }
 
 -- ---- read
 
@@ -77,7 +87,8 @@ record_fields k =
     both heading_fields (λ heading.
     both (keys_fields k heading) (λ keys.
     both (boxes_fields k heading) (λ _.
-    awaiting_field heading.version heading.side heading.epoch (sent_of keys.phase))))
+    both (awaiting_field heading.version heading.side heading.epoch (sent_of keys.phase)) (λ _.
+    relay_field heading.version))))
 
 -- what a text is the record of, and in which version; else the offset of the first field that is
 -- cut short or unlawful, or of the first byte after the record
@@ -99,7 +110,8 @@ saved_text s =
     heading_text (heading_in s.version s.client.state)
     ++ (keys_text (keys_in s.client.state)
     ++ (boxes_text s.version (boxes_in s.client)
-    ++ awaiting_text s.version s.client.state.awaiting))
+    ++ (awaiting_text s.version s.client.state.awaiting
+    ++ relay_text s.version s.client.relay)))
 
 -- the text of a client's record, which is that of the newest version
 unfoldable pub record_text : Client → List ℕ

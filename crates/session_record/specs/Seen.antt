@@ -1,10 +1,11 @@
 -- What the groups that code read stand for.
-use Rattle.std.specs.Prelude.{List, option_map}
+use Rattle.std.specs.Prelude.{List, Option, option_map}
 use Rattle.boxes.specs.Entries.{Entry}
 use Rattle.boxes.specs.Posts.{Post}
 use Rattle.dr_base.specs.declared.key.Kept.{Kept}
 use Rattle.dr_base.specs.declared.position.Position.{Position}
 use Rattle.session_model.specs.Seen.{phase_seen, reception_seen}
+use Rattle.session_model.specs.declared.relay_keys.RelayKeys.{RelayKeys}
 use Rattle.session_record.specs.Groups.{Keys, boxes_of}
 use Rattle.session_record.specs.Record.{Groups}
 use Rattle.session_record.specs.declared.groups.Heading.{Heading}
@@ -19,7 +20,11 @@ keys_seen keys kept = record {
   kept = kept;
 }
 
+-- what stands behind the boxes
+abbrev pub Behind : Type 0
+Behind = List Position × Option RelayKeys
+
 -- and with what the boxes hold
-abbrev pub groups_read : Heading → KeysRead → List Kept → List Position → List Entry → List Post → Groups
-groups_read h keys kept awaiting inbox outbox =
-    (h, (keys_seen keys kept, (boxes_of (inbox, outbox), awaiting)))
+abbrev pub groups_read : Heading → KeysRead → List Kept → Behind → List Entry → List Post → Groups
+groups_read h keys kept behind inbox outbox =
+    (h, (keys_seen keys kept, (boxes_of (inbox, outbox), behind)))

@@ -15,13 +15,14 @@ use crate::groups::{Heading, Keys, read_heading, read_keys};
 use crate::inbox::read_inbox;
 use crate::laws::version_law;
 use crate::outbox::read_outbox;
+use crate::relay::read_relay;
 use arrayvec::ArrayVec;
 use boxes::{Inbox, Outbox};
 use dr_base::{KEPT_LIMIT, Kept};
 use fs_aead::Skipped;
 use grammar::Cursor;
 use kem_laws::{Kem, laws};
-use session_model::{Awaiting, Head, SessionPart};
+use session_model::{Awaiting, Head, RelayKeys, SessionPart};
 use std::marker::PhantomData;
 
 /// The boxes, which are empty before.
@@ -49,19 +50,20 @@ fn read_fields<K: Kem>(
     kept: &mut ArrayVec<Kept, KEPT_LIMIT>,
     inbox: &mut Inbox,
     outbox: &mut Outbox,
-) -> Result<(Heading, Keys, Awaiting), usize>
+) -> Result<(Heading, Keys, Awaiting, Option<RelayKeys>), usize>
     requires kept { kept.old.items ≡ [] }
     requires inbox { inbox.old ≡ [] }
     requires outbox { outbox.old ≡ [] }
     ensures { let fields = record_fields K.mechanism in
-        Reads (λ f. groups_read f.0 f.1 kept.new.items f.2 inbox.new outbox.new) fields
+        Reads (λ f. groups_read f.0 f.1 kept.new.items (f.2, f.3) inbox.new outbox.new) fields
         cursor.old cursor.new result }
 {
     let heading = read_heading(cursor)?;
     let keys = read_keys::<K>(cursor, &heading, kept)?;
     read_boxes::<K>(cursor, &heading, inbox, outbox)?;
     let awaiting = read_awaiting(cursor, &heading, sent_of(&keys.phase))?;
-    Ok((heading, keys, awaiting))
+    let relay = read_relay(cursor, heading.version)?;
+    Ok((heading, keys, awaiting, relay))
 }
 
 /// Reads a whole text.
@@ -71,12 +73,12 @@ fn read_whole<K: Kem>(
     kept: &mut ArrayVec<Kept, KEPT_LIMIT>,
     inbox: &mut Inbox,
     outbox: &mut Outbox,
-) -> Result<(Heading, Keys, Awaiting), usize>
+) -> Result<(Heading, Keys, Awaiting, Option<RelayKeys>), usize>
     requires kept { kept.old.items ≡ [] }
     requires inbox { inbox.old ≡ [] }
     requires outbox { outbox.old ≡ [] }
     ensures { MatchResult result
-        (λ f. let groups = groups_read f.0 f.1 kept.new.items f.2 inbox.new outbox.new in
+        (λ f. let groups = groups_read f.0 f.1 kept.new.items (f.2, f.3) inbox.new outbox.new in
         saved_read K.mechanism text.now ≡ Ok (saved_of groups))
         (λ at. saved_read K.mechanism text.now ≡ Err at) }
 {
@@ -119,20 +121,20 @@ fn part_of<K: Kem>(
     }
 }
 
-/// Reads a client's record into the part of its session and the boxes, which are empty. A text that
-/// is no record leaves them empty. What is read is lawful.
+/// Reads a client's record into the part of its session, the keys of its boxes at a relay, which a
+/// session may lack, and the boxes, which are empty. A text that is no record leaves them empty. What is read is lawful.
 pub fn decode<K: Kem>(
     text: &[u8],
     inbox: &mut Inbox,
     outbox: &mut Outbox,
-) -> Result<SessionPart<K>, Damaged>
+) -> Result<(SessionPart<K>, Option<RelayKeys>), Damaged>
     requires inbox { inbox.old ≡ [] }
     requires outbox { outbox.old ≡ [] }
     ensures exact { MatchResult result
-        (λ part. record_read K.mechanism text.now ≡ Ok (client_of part inbox.new outbox.new))
+        (λ r. record_read K.mechanism text.now ≡ Ok (client_of r.0 inbox.new outbox.new r.1))
         (λ damaged. record_read K.mechanism text.now ≡ Err damaged.at) }
-    ensures lawful { IfOk result (λ part.
-        IsLawfulClient K.mechanism (client_of part inbox.new outbox.new)) }
+    ensures lawful { IfOk result (λ r.
+        IsLawfulClient K.mechanism (client_of r.0 inbox.new outbox.new r.1)) }
     ensures within { IfErr result (λ damaged. damaged.at ≤ RECORD_LIMIT) }
     ensures empty_inbox { OnErr result (inbox.new ≡ []) }
     ensures empty_outbox { OnErr result (outbox.new ≡ []) }
@@ -141,7 +143,10 @@ pub fn decode<K: Kem>(
     version_law();
     let mut kept = ArrayVec::new();
     match read_whole::<K>(text, &mut kept, inbox, outbox) {
-        Ok((heading, keys, awaiting)) => Ok(part_of(heading, keys, awaiting, kept.as_slice())),
+        Ok((heading, keys, awaiting, relay)) => {
+            let part = part_of(heading, keys, awaiting, kept.as_slice());
+            Ok((part, relay))
+        }
         Err(at) => {
             inbox.drop_first(inbox.len()).unwrap();
             outbox.drop_first(outbox.len()).unwrap();

@@ -3,28 +3,32 @@
 ghost use Rattle.std.specs.Prelude.{◌≡◌, ◌+◌, ◌<◌, ◌≤◌, [], ◌∷◌, ◌++◌, length, drop, IfOk};
 ghost use Rattle.std.specs.Int.{w8, w16};
 ghost use Rattle.boxes.specs.Entries.{entry_with};
+ghost use Rattle.boxes.specs.Parts.{is_content};
 ghost use Rattle.boxes.specs.Seen.{entry_seen};
 ghost use Rattle.dr_base.specs.Buffer.{Puts};
 ghost use Rattle.grammar.specs.Printer.{print_counted, print_items};
 ghost use Rattle.grammar.specs.Reader.{items, sized};
 ghost use Rattle.grammar.specs.Standing.{Reads};
 ghost use Rattle.session_model.specs.Leaving.{left_in_inbox};
+ghost use Rattle.session_model.specs.declared.answer.Which.TheVariants.{Oldest};
 ghost use Rattle.session_record.specs.Changes.{FitsInbox, inbox_after};
 ghost use Rattle.session_record.specs.Fields.{up_to};
-ghost use Rattle.session_record.specs.Lists.{any, entry_field, entry_text, inbox_field};
+ghost use Rattle.session_record.specs.Lists.{entry_field, entry_text, inbox_field};
 ghost use Rattle.session_record.specs.Versions.{newest};
 
 use crate::change::Change;
 use crate::groups::Heading;
 use crate::numbers::{read_kind, read_len};
-use boxes::{Entry, Inbox};
+use crate::others::put_others;
+use boxes::{Entry, Inbox, is_content};
 use dr_base::{INBOX_LIMIT, INDEX_LIMIT, Position, TEXT_LIMIT, put, put_u8, put_u16, put_u32};
 use grammar::Cursor;
 use session_model::{Items, Which};
 
-/// A text after its length, which is at most `limit`.
-fn read_text<'a>(cursor: &mut Cursor<'a>, limit: usize) -> Result<&'a [u8], usize>
-    ensures reads { Reads (λ t. t.now) (sized w16 (up_to limit) any) cursor.old cursor.new result }
+/// A content of a kind after its length, which is at most `limit`.
+fn read_text<'a>(cursor: &mut Cursor<'a>, limit: usize, kind: u8) -> Result<&'a [u8], usize>
+    ensures reads { let field = sized w16 (up_to limit) (is_content kind) in
+        Reads (λ t. t.now) field cursor.old cursor.new result }
     ensures short { IfOk result (λ t. length t.now ≤ limit) }
 {
     let at = cursor.at();
@@ -32,10 +36,15 @@ fn read_text<'a>(cursor: &mut Cursor<'a>, limit: usize) -> Result<&'a [u8], usiz
     if size > limit {
         return Err(at);
     }
-    cursor.piece(size)
+    let at_text = cursor.at();
+    let text = cursor.piece(size)?;
+    if !is_content(kind, text) {
+        return Err(at_text);
+    }
+    Ok(text)
 }
 
-/// A text of the peer's, its kind and its position.
+/// A content of the peer's, its kind and its position.
 #[tactic(auto, unfolding(crate::specs::Lists::entry_field))]
 fn read_entry<'a>(cursor: &mut Cursor<'a>, heading: &Heading) -> Result<Entry<'a>, usize>
     ensures reads { let h = heading.now in
@@ -53,7 +62,7 @@ fn read_entry<'a>(cursor: &mut Cursor<'a>, heading: &Heading) -> Result<Entry<'a
         return Err(at_index);
     }
     let kind = read_kind(cursor, heading.version)?;
-    let text = read_text(cursor, heading.version.text_most())?;
+    let text = read_text(cursor, heading.version.text_most(), kind)?;
     Ok(Entry {
         position: Position { epoch: of, index },
         kind,
@@ -96,7 +105,13 @@ pub(crate) fn read_inbox(
 }
 
 /// Puts a text, its kind and its position.
-fn put_entry(out: &mut [u8], at: usize, position: Position, kind: u8, text: &[u8]) -> usize
+pub(crate) fn put_entry(
+    out: &mut [u8],
+    at: usize,
+    position: Position,
+    kind: u8,
+    text: &[u8],
+) -> usize
     requires short { length text.now ≤ TEXT_LIMIT }
     requires room { let entry = entry_with position kind text.now in
         at + length (entry_text newest entry) ≤ length out.old }
@@ -161,14 +176,27 @@ fn put_more(
     put_entry(out, at_last, position, kind, text)
 }
 
-/// The place of the oldest text that is left once items leave their box.
-pub(crate) fn oldest_text_left(inbox: &Inbox, which: Which) -> u32
+/// The place of the oldest text that is left once the oldest items leave their box.
+pub(crate) fn oldest_text_left(inbox: &Inbox, items: Items, n: u32) -> u32
     ensures inside { result ≤ length inbox.now }
-    ensures left { drop result inbox.now ≡ left_in_inbox which inbox.now }
+    ensures left { drop result inbox.now ≡ left_in_inbox (Oldest items n) inbox.now }
+{
+    match items {
+        Items::Texts => n.min(inbox.len()),
+        Items::Packets => 0,
+    }
+}
+
+/// Puts the texts that are left once items leave their box, after their count.
+fn put_left(out: &mut [u8], at: usize, inbox: &Inbox, which: Which) -> usize
+    requires { let left = left_in_inbox which inbox.now in
+        at + length (print_counted w8 (entry_text newest) left) ≤ length out.old }
+    ensures { let left = left_in_inbox which inbox.now in
+        Puts out.old out.new at (print_counted w8 (entry_text newest) left) result }
 {
     match which {
-        Which::Oldest(Items::Texts, n) => n.min(inbox.len()),
-        Which::Oldest(Items::Packets, _) => 0,
+        Which::Oldest(items, n) => { put_later(out, at, inbox, oldest_text_left(inbox, items, n)) }
+        Which::OfId(id) => put_others(out, at, inbox, id),
     }
 }
 
@@ -186,7 +214,7 @@ pub(crate) fn put_inbox(out: &mut [u8], at: usize, inbox: &Inbox, change: &Chang
             kind,
             text,
         } => put_more(out, at, inbox, *position, *kind, text),
-        Change::Dropped(which) => put_later(out, at, inbox, oldest_text_left(inbox, *which)),
+        Change::Dropped(which) => put_left(out, at, inbox, *which),
         Change::Same | Change::Said { .. } => put_later(out, at, inbox, 0),
     }
 }

@@ -13,6 +13,7 @@ use arrayvec::ArrayVec;
 use dr_base::{INDEX_LIMIT, KEPT_LIMIT, Kept, Position, put, put_u16, put_u32};
 use grammar::Cursor;
 use record_fields::read_key;
+use session_model::is_long;
 
 /// A kept key after the one at a position.
 #[tactic(auto, unfolding(crate::specs::Lists::kept_behind))]
@@ -120,11 +121,6 @@ pub(crate) fn put_kept(out: &mut [u8], at: usize, keys: &[Kept]) -> usize
     let next = put_u16(out, at, keys.len() as u16);
     put_each(out, next, keys)
 }
-
-/// A key has 32 bytes, which the proofs learn here.
-pub(crate) fn is_long(key: &[u8; 32])
-    ensures { length key.now ≡ 32 }
-{}
 
 /// Each kept key has 32 bytes, which the proofs learn here.
 pub(crate) fn are_long(keys: &[Kept])

@@ -1,9 +1,10 @@
 //! How long a record is, before it is written.
 
-ghost use Rattle.std.specs.Prelude.{◌≡◌, ◌*◌, ◌≤◌, length, drop, option_map};
+ghost use Rattle.std.specs.Prelude.{◌≡◌, ◌*◌, ◌≤◌, length, drop, option_copied, option_map};
 ghost use Rattle.std.specs.Int.{w8, w16};
 ghost use Rattle.dr_base.specs.declared.limits.TheConstants.{INBOX_LIMIT, KEPT_LIMIT, OUTBOX_LIMIT};
 ghost use Rattle.grammar.specs.Printer.{print_counted, print_items, print_maybe};
+ghost use Rattle.session_model.specs.Leaving.{left_in_inbox};
 ghost use Rattle.session_model.specs.Seen.{phase_seen, reception_seen};
 ghost use Rattle.session_record.specs.declared.limits.TheConstants.{ENTRY_LIMIT, KEYS_LIMIT, PHASE_LIMIT, POST_LIMIT, RECORD_LIMIT, STREAM_SIZE};
 ghost use Rattle.session_record.specs.Awaiting.{awaiting_text};
@@ -17,13 +18,15 @@ ghost use Rattle.session_record.specs.Versions.{newest};
 use crate::change::Change;
 use crate::encoding::is_short;
 use crate::inbox::oldest_text_left;
-use crate::kept::{are_long, is_long};
+use crate::kept::are_long;
 use crate::limits::{COUNT_SIZE, ENTRY_SIZE, HEADING_SIZE, KEPT_SIZE, PLACE_SIZE, STREAM_SIZE};
+use crate::others::others_len;
 use crate::outbox::oldest_packet_left;
+use crate::relay::relay_len;
 use boxes::{Inbox, Outbox};
 use dr_base::Kept;
 use kem_laws::Kem;
-use session_model::{LentPart, Phase, Reception};
+use session_model::{LentPart, Phase, Reception, RelayKeys, Which, is_long};
 
 /// The length of what a record begins with.
 fn heading_len<K: Kem>(part: &LentPart<'_, K>) -> usize
@@ -97,6 +100,18 @@ fn entries_len(inbox: &Inbox, from: u32) -> usize
     sum
 }
 
+/// The length of the texts that are left once items leave their box.
+fn left_len(inbox: &Inbox, which: Which) -> usize
+    ensures len { let left = left_in_inbox which inbox.now in
+        result ≡ length (print_items (entry_text newest) left) }
+    ensures limit { result ≤ ENTRY_LIMIT * INBOX_LIMIT }
+{
+    match which {
+        Which::Oldest(items, n) => entries_len(inbox, oldest_text_left(inbox, items, n)),
+        Which::OfId(id) => others_len(inbox, id),
+    }
+}
+
 /// The length of the inbox as a change leaves it.
 fn inbox_len(inbox: &Inbox, change: &Change<'_>) -> usize
     requires { FitsInbox inbox.now change.now }
@@ -105,7 +120,7 @@ fn inbox_len(inbox: &Inbox, change: &Change<'_>) -> usize
 {
     match change {
         Change::Received { text, .. } => 1 + entries_len(inbox, 0) + ENTRY_SIZE + text.len(),
-        Change::Dropped(which) => 1 + entries_len(inbox, oldest_text_left(inbox, *which)),
+        Change::Dropped(which) => 1 + left_len(inbox, *which),
         Change::Same | Change::Said { .. } => 1 + entries_len(inbox, 0),
     }
 }
@@ -152,16 +167,18 @@ pub fn encoded_len<K: Kem>(
     inbox: &Inbox,
     outbox: &Outbox,
     change: &Change<'_>,
+    keys: Option<&RelayKeys>,
 ) -> usize
     requires inbox { FitsInbox inbox.now change.now }
     requires outbox { FitsOutbox outbox.now change.now }
-    ensures len { let client = client_of part.now inbox.now outbox.now in
+    ensures len { let keys = option_copied keys.entry in
+        let client = client_of part.now inbox.now outbox.now keys in
         let text = record_text (changed K.mechanism client change.now) in
         result ≡ length text }
     ensures limit { result ≤ RECORD_LIMIT }
 {
-    is_short(part, inbox, outbox, change);
+    is_short(part, inbox, outbox, change, keys);
     let groups = heading_len(part) + keys_len(part);
     let boxes = inbox_len(inbox, change) + outbox_len::<K>(outbox, change);
-    groups + boxes + awaiting_len(part)
+    groups + boxes + awaiting_len(part) + relay_len(keys)
 }

@@ -6,6 +6,7 @@ use dr_base::{
     AGREEMENT_LIMIT, AWAITING_LIMIT, INBOX_LIMIT, KEPT_LIMIT, OUTBOX_LIMIT, PACKET_LIMIT,
     SECRET_LIMIT, TEXT_LIMIT,
 };
+use session_model::RELAY_KEYS_SIZE;
 
 /// The version, the side, the format, the session id, the root and the epoch.
 pub(crate) const HEADING_SIZE: usize = 1 + 1 + 1 + 16 + 32 + 4;
@@ -46,8 +47,11 @@ pub(crate) const POSTS_LIMIT: usize = 1 + POST_LIMIT * OUTBOX_LIMIT;
 /// The most positions of texts that wait, after their number.
 pub(crate) const WAITING_LIMIT: usize = 1 + PLACE_SIZE * AWAITING_LIMIT;
 
+/// The keys of the session's boxes, after the byte that says whether there are some.
+pub(crate) const RELAY_LIMIT: usize = 1 + RELAY_KEYS_SIZE;
+
 /// The longest record: its heading, the keys of the epoch, the previous count, the receiving
-/// stream, the kept keys, the inbox, the outbox and the texts that wait.
+/// stream, the kept keys, the inbox, the outbox, the texts that wait and the keys of its boxes.
 pub const RECORD_LIMIT: usize = HEADING_SIZE
     + PHASE_LIMIT
     + COUNT_SIZE
@@ -55,7 +59,8 @@ pub const RECORD_LIMIT: usize = HEADING_SIZE
     + KEYS_LIMIT
     + ENTRIES_LIMIT
     + POSTS_LIMIT
-    + WAITING_LIMIT;
+    + WAITING_LIMIT
+    + RELAY_LIMIT;
 
 /// The limits of this crate as numbers. The function has no code.
 pub fn limits_in_numbers()

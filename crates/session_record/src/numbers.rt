@@ -42,7 +42,7 @@ pub(crate) fn read_len(cursor: &mut Cursor<'_>, limit: usize) -> Result<u8, usiz
     Ok(len)
 }
 
-/// The kind of a text, which the version may have a byte for: it is a text's.
+/// The kind of a text, which the version may have a byte for: one that it has, else a text's.
 #[tactic(auto, unfolding(crate::specs::Lists::kind_field))]
 pub(crate) fn read_kind(cursor: &mut Cursor<'_>, version: Version) -> Result<u8, usize>
     ensures { Reads (λ kind. kind) (kind_field version) cursor.old cursor.new result }
@@ -52,7 +52,7 @@ pub(crate) fn read_kind(cursor: &mut Cursor<'_>, version: Version) -> Result<u8,
     }
     let at = cursor.at();
     let kind = cursor.number8()?;
-    if kind != TEXT_KIND {
+    if !version.has_kind(kind) {
         return Err(at);
     }
     Ok(kind)

@@ -153,7 +153,7 @@ pub(crate) fn oldest_packet_left(outbox: &Outbox, which: Which) -> u32
     ensures left { drop result outbox.now ≡ left_in_outbox which outbox.now }
 {
     match which {
-        Which::Oldest(Items::Texts, _) => 0,
+        Which::Oldest(Items::Texts, _) | Which::OfId(_) => 0,
         Which::Oldest(Items::Packets, n) => n.min(outbox.len()),
     }
 }

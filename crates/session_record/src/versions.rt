@@ -5,8 +5,9 @@ ghost use Rattle.dr_base.specs.declared.limits.TheConstants.{PLAIN, TEXT_LIMIT};
 ghost use Rattle.grammar.specs.Standing.{Reads};
 ghost use Rattle.packet.specs.Packet.{Fields};
 ghost use Rattle.session_record.specs.Fields.{version_field};
-ghost use Rattle.session_record.specs.Versions.{has_format, has_kinds, has_receipts, inbox_most, is_newest, is_packet_of, kept_most, outbox_most, text_most, version_code};
+ghost use Rattle.session_record.specs.Versions.{has_format, has_keys, has_kinds, has_receipts, inbox_most, is_kind_of, is_newest, is_packet_of, kept_most, outbox_most, text_most, version_code};
 
+use boxes::{PART_KIND, TEXT_KIND};
 use dr_base::{INBOX_LIMIT, KEPT_LIMIT, OUTBOX_LIMIT, PADDED, PLAIN, TEXT_LIMIT};
 use grammar::Cursor;
 
@@ -30,10 +31,11 @@ pub(crate) enum Version {
     Two,
     Three,
     Four,
+    Five,
 }
 
 /// The version that is written.
-pub(crate) const NEWEST: Version = Version::Four;
+pub(crate) const NEWEST: Version = Version::Five;
 
 impl Version {
     /// Its byte.
@@ -45,6 +47,7 @@ impl Version {
             Version::Two => 2,
             Version::Three => 3,
             Version::Four => 4,
+            Version::Five => 5,
         }
     }
 
@@ -54,7 +57,7 @@ impl Version {
     {
         match self {
             Version::One | Version::Two => false,
-            Version::Three | Version::Four => true,
+            Version::Three | Version::Four | Version::Five => true,
         }
     }
 
@@ -64,7 +67,7 @@ impl Version {
     {
         match self {
             Version::One | Version::Two | Version::Three => false,
-            Version::Four => true,
+            Version::Four | Version::Five => true,
         }
     }
 
@@ -74,7 +77,17 @@ impl Version {
     {
         match self {
             Version::One | Version::Two | Version::Three => false,
-            Version::Four => true,
+            Version::Four | Version::Five => true,
+        }
+    }
+
+    /// Whether a byte says if the session has keys of its boxes at a relay.
+    pub(crate) fn has_keys(self) -> bool
+        ensures { result ≡ has_keys self }
+    {
+        match self {
+            Version::One | Version::Two | Version::Three | Version::Four => false,
+            Version::Five => true,
         }
     }
 
@@ -85,7 +98,17 @@ impl Version {
     {
         match self {
             Version::One => FIRST_TEXT_LIMIT,
-            Version::Two | Version::Three | Version::Four => TEXT_LIMIT,
+            Version::Two | Version::Three | Version::Four | Version::Five => TEXT_LIMIT,
+        }
+    }
+
+    /// Whether the texts of its inbox may have a kind.
+    pub(crate) fn has_kind(self, kind: u8) -> bool
+        ensures { result ≡ is_kind_of self kind }
+    {
+        match self {
+            Version::One | Version::Two | Version::Three | Version::Four => kind == TEXT_KIND,
+            Version::Five => kind == TEXT_KIND || kind == PART_KIND,
         }
     }
 
@@ -97,7 +120,7 @@ impl Version {
         match self {
             Version::One | Version::Two => packet == PLAIN && sealed <= self.text_most(),
             Version::Three => packet == PLAIN || packet == PADDED,
-            Version::Four => true,
+            Version::Four | Version::Five => true,
         }
     }
 
@@ -108,7 +131,7 @@ impl Version {
     {
         match self {
             Version::One => FIRST_KEPT_LIMIT,
-            Version::Two | Version::Three | Version::Four => KEPT_LIMIT,
+            Version::Two | Version::Three | Version::Four | Version::Five => KEPT_LIMIT,
         }
     }
 
@@ -119,7 +142,7 @@ impl Version {
     {
         match self {
             Version::One => FIRST_INBOX_LIMIT,
-            Version::Two | Version::Three | Version::Four => INBOX_LIMIT,
+            Version::Two | Version::Three | Version::Four | Version::Five => INBOX_LIMIT,
         }
     }
 
@@ -130,7 +153,7 @@ impl Version {
     {
         match self {
             Version::One => FIRST_OUTBOX_LIMIT,
-            Version::Two | Version::Three | Version::Four => OUTBOX_LIMIT,
+            Version::Two | Version::Three | Version::Four | Version::Five => OUTBOX_LIMIT,
         }
     }
 }
@@ -146,6 +169,7 @@ pub(crate) fn read_version(cursor: &mut Cursor<'_>) -> Result<Version, usize>
         2 => Ok(Version::Two),
         3 => Ok(Version::Three),
         4 => Ok(Version::Four),
+        5 => Ok(Version::Five),
         _ => Err(at),
     }
 }

@@ -6,8 +6,9 @@ use Rattle.dr_base.specs.declared.position.Side.{Side}
 use Rattle.dr_base.specs.declared.position.Side.TheVariants.{First, Second}
 use Rattle.kem_laws.specs.Mechanism.{IsLawfulMechanism, Mechanism}
 use Rattle.session_model.specs.Clients.{Client, say_check}
+use Rattle.session_model.specs.Contents.{Content}
 use Rattle.session_model.specs.declared.answer.Which.{Which}
-use Rattle.session_model.specs.declared.answer.Which.TheVariants.{Oldest}
+use Rattle.session_model.specs.declared.answer.Which.TheVariants.{OfId, Oldest}
 use Rattle.dr_model.specs.Machines.Acts.{Act, act_on, dropping, needs_seed, saying, taking}
 use Rattle.dr_model.specs.Machines.Sides.{Sides, called_on, client_of, settled_on, step_on}
 use Rattle.dr_model.specs.Machines.Steps.{Step, settled}
@@ -26,10 +27,10 @@ use Rattle.dr_model.proofs.Worlds.WorldViews.{client_of-kept}
 -- ---- the event of an act
 
 -- with the draw for it the world is lawful
-lawful_draw : (k : Mechanism) (w : World) (side : Side) (len : ℕ) (draw : Option (List ℕ)) → IsLawfulWorld k w
-    → IsDrawn k w side len draw → IsLawfulWorld k (with_draw w draw)
-lawful_draw k w side len None lawful drawn = lawful
-lawful_draw k w side len (Some seed) lawful drawn = record {
+lawful_draw : (k : Mechanism) (w : World) (side : Side) (content : Content) (draw : Option (List ℕ)) → IsLawfulWorld k w
+    → IsDrawn k w side content draw → IsLawfulWorld k (with_draw w draw)
+lawful_draw k w side content None lawful drawn = lawful
+lawful_draw k w side content (Some seed) lawful drawn = record {
   conversation = lawful.conversation;
   first = lawful.first;
   second = lawful.second;
@@ -38,22 +39,24 @@ lawful_draw k w side len (Some seed) lawful drawn = record {
 
 pub lawful_for : (k : Mechanism) (w : World) (side : Side) (act : Act) → IsLawfulWorld k w → IsFairAct k w side act
     → IsLawfulWorld k (world_for w act)
-lawful_for k w side (saying text draw) lawful fair = lawful_draw k w side (length text) draw lawful fair
+lawful_for k w side (saying content draw) lawful fair = lawful_draw k w side content draw lawful fair
 lawful_for k w side act lawful fair = lawful
 
 -- the call by which items leave makes up no bytes
 drop_unforged : (k : Mechanism) (w : World) (side : Side) (which : Which) → IsUnforgedCall k w side (drop_call which)
 drop_unforged k w side (Oldest items n) = tt
+drop_unforged k w side (OfId id) = tt
 
 -- and both sides make of it what the one does by itself
 pub drop_called : (k : Mechanism) (s : Sides) (side : Side) (which : Which)
     → called_on k s side (drop_call which) ≡ settled_on s side (act_on k (client_of s side) (dropping which))
 drop_called k s side (Oldest items n) = refl
+drop_called k s side (OfId id) = refl
 
 -- so the event is fair
 pub fair_event : (k : Mechanism) (w : World) (side : Side) (act : Act) → IsFairAct k w side act
     → IsFair k (world_for w act) (event_of side act)
-fair_event k w side (saying text draw) fair = record { unforged = tt; whole = tt }
+fair_event k w side (saying content draw) fair = record { unforged = tt; whole = tt }
 fair_event k w side (taking bytes) fair = record { unforged = fair; whole = tt }
 fair_event k w side (dropping which) fair = record { unforged = drop_unforged k w side which; whole = tt }
 
@@ -73,7 +76,7 @@ draw_keeps k w Second (Some seed) = refl
 
 pub act_keeps : (k : Mechanism) (w : World) (side : Side) (act : Act)
     → client_of (sides_of k (world_for w act)) side ≡ kept_in k w side
-act_keeps k w side (saying text draw) = client_of-kept k (with_draw w draw) side ∙ draw_keeps k w side draw
+act_keeps k w side (saying content draw) = client_of-kept k (with_draw w draw) side ∙ draw_keeps k w side draw
 act_keeps k w side act = client_of-kept k w side
 
 -- the draw is the next one
@@ -83,22 +86,22 @@ draw_given k w (Some seed) some = refl
 draw_given k w None some = cc
 
 -- whether a text needs a seed doesn't depend on it
-pub same_need : (k : Mechanism) (w : World) (side : Side) (len : ℕ) (draw : Option (List ℕ)) → IsLawfulWorld k w
-    → IsDrawn k w side len draw
-    → is_some draw ≡ needs_seed (say_check (client_of (sides_of k (with_draw w draw)) side) len)
-same_need k w side len draw lawful drawn =
-    drawn.needed ∙ sym (ap needs_seed (same_check k w side len lawful))
-    ∙ sym (ap (λ (client : Client). needs_seed (say_check client len))
+pub same_need : (k : Mechanism) (w : World) (side : Side) (content : Content) (draw : Option (List ℕ)) → IsLawfulWorld k w
+    → IsDrawn k w side content draw
+    → is_some draw ≡ needs_seed (say_check (client_of (sides_of k (with_draw w draw)) side) content)
+same_need k w side content draw lawful drawn =
+    drawn.needed ∙ sym (ap needs_seed (same_check k w side content lawful))
+    ∙ sym (ap (λ (client : Client). needs_seed (say_check client content))
     (client_of-kept k (with_draw w draw) side ∙ draw_keeps k w side draw ∙ sym (client_of-kept k w side)))
 
 -- what the side makes of the event
 acted : (k : Mechanism) (w : World) (side : Side) (act : Act) → IsLawfulWorld k w → IsFairAct k w side act
     → kept_on side (step_on k (sides_of k (world_for w act)) (event_of side act))
     ≡ settled (client_of (sides_of k (world_for w act)) side) (act_on k (client_of (sides_of k (world_for w act)) side) act)
-acted k w side (saying text draw) lawful fair =
+acted k w side (saying content draw) lawful fair =
     let s = sides_of k (with_draw w draw) in
-    saying_kept k s side text draw (say_check (client_of s side) (length text))
-    (same_need k w side (length text) draw lawful fair) (draw_given k w draw)
+    saying_kept k s side content draw (say_check (client_of s side) content)
+    (same_need k w side content draw lawful fair) (draw_given k w draw)
 acted k w side (taking bytes) lawful fair =
     settled_kept (sides_of k w) side (act_on k (client_of (sides_of k w) side) (taking bytes))
 acted k w side (dropping which) lawful fair =
@@ -123,7 +126,7 @@ act_follows k w side act law lawful fair =
 -- ---- what the other side keeps
 
 event_leaves : (k : Mechanism) (s : Sides) (side : Side) (act : Act) → Leaves side s (step_on k s (event_of side act))
-event_leaves k s side (saying text draw) = saying_leaves k s side text (say_check (client_of s side) (length text))
+event_leaves k s side (saying content draw) = saying_leaves k s side content (say_check (client_of s side) content)
 event_leaves k s side (taking bytes) = settled_leaves s side (act_on k (client_of s side) (taking bytes))
 event_leaves k s side (dropping which) =
     ap (λ (made : Step Sides). client_of made.next (peer_of side)) (drop_called k s side which)

@@ -5,6 +5,7 @@ use Rattle.dr_base.specs.Position.{peer_of}
 use Rattle.dr_base.specs.declared.position.Side.{Side}
 use Rattle.dr_base.specs.declared.position.Side.TheVariants.{First, Second}
 use Rattle.kem_laws.specs.Mechanism.{Mechanism}
+use Rattle.session_model.specs.Contents.{Content}
 use Rattle.session_model.specs.Clients.{Client, SaidText, say_on}
 use Rattle.session_model.specs.declared.answer.Refusal.{Refusal}
 use Rattle.dr_model.specs.Machines.Acts.{needs_seed, said_by, saying_by}
@@ -57,24 +58,24 @@ drawn_client s First draws = refl
 drawn_client s Second draws = refl
 
 -- with the seed that was drawn for it, where one is needed
-pub saying_kept : (k : Mechanism) (s : Sides) (side : Side) (text : List ℕ) (draw : Option (List ℕ))
+pub saying_kept : (k : Mechanism) (s : Sides) (side : Side) (content : Content) (draw : Option (List ℕ))
     (r : Result Bool Refusal) → is_some draw ≡ needs_seed r
     → (is_some draw ≡ true → s.draws.given ≡ draw)
-    → kept_on side (saying_on k s side text r) ≡ settled (client_of s side) (saying_by k (client_of s side) text draw r)
-saying_kept k s side text draw (Err refusal) needed given = refl
-saying_kept k s side text None (Ok false) needed given = said_kept s side (say_on k (client_of s side) text [])
-saying_kept k s side text (Some seed) (Ok false) needed given = cc
-saying_kept k s side text None (Ok true) needed given = cc
-saying_kept k s side text (Some seed) (Ok true) needed given =
-    said_kept (record s { draws = after_draw s.draws }) side (say_on k (client_of s side) text (next_seed s.key s.draws))
-    ∙ ap₂ (λ (client : Client) seed. settled client (said_by (say_on k (client_of s side) text seed)))
+    → kept_on side (saying_on k s side content r) ≡ settled (client_of s side) (saying_by k (client_of s side) content draw r)
+saying_kept k s side content draw (Err refusal) needed given = refl
+saying_kept k s side content None (Ok false) needed given = said_kept s side (say_on k (client_of s side) content [])
+saying_kept k s side content (Some seed) (Ok false) needed given = cc
+saying_kept k s side content None (Ok true) needed given = cc
+saying_kept k s side content (Some seed) (Ok true) needed given =
+    said_kept (record s { draws = after_draw s.draws }) side (say_on k (client_of s side) content (next_seed s.key s.draws))
+    ∙ ap₂ (λ (client : Client) seed. settled client (said_by (say_on k (client_of s side) content seed)))
     (drawn_client s side (after_draw s.draws))
     (ap (given_or (drawn s.key s.draws.made)) (given refl))
 
-pub saying_leaves : (k : Mechanism) (s : Sides) (side : Side) (text : List ℕ) (r : Result Bool Refusal)
-    → Leaves side s (saying_on k s side text r)
-saying_leaves k s side text (Err refusal) = refl
-saying_leaves k s side text (Ok false) = said_leaves s side (say_on k (client_of s side) text [])
-saying_leaves k s side text (Ok true) =
-    said_leaves (record s { draws = after_draw s.draws }) side (say_on k (client_of s side) text (next_seed s.key s.draws))
+pub saying_leaves : (k : Mechanism) (s : Sides) (side : Side) (content : Content) (r : Result Bool Refusal)
+    → Leaves side s (saying_on k s side content r)
+saying_leaves k s side content (Err refusal) = refl
+saying_leaves k s side content (Ok false) = said_leaves s side (say_on k (client_of s side) content [])
+saying_leaves k s side content (Ok true) =
+    said_leaves (record s { draws = after_draw s.draws }) side (say_on k (client_of s side) content (next_seed s.key s.draws))
     ∙ drawn_client s (peer_of side) (after_draw s.draws)

@@ -5,6 +5,7 @@ use Rattle.boxes.specs.Posts.{Post}
 use Rattle.dr_base.specs.declared.position.Side.{Side}
 use Rattle.dr_base.specs.declared.position.Side.TheVariants.{First, Second}
 use Rattle.kem_laws.specs.Mechanism.{IsLawfulMechanism, Mechanism}
+use Rattle.session_model.specs.Contents.{Content}
 use Rattle.session_model.specs.Clients.{Client, SaidText, say_check, say_on}
 use Rattle.session_model.specs.declared.answer.Refusal.{Refusal}
 use Rattle.dr_model.specs.Conversations.Posts.{posts}
@@ -25,12 +26,12 @@ abbrev said_posts : Result SaidText Refusal → List Post
 said_posts (Ok said) = said.post ∷ []
 said_posts (Err refusal) = []
 
-abbrev saying_posts : Mechanism → Client → List ℕ → Option (List ℕ) → Result Bool Refusal → List Post
-saying_posts k client text draw (Ok turns) = said_posts (say_on k client text (given_or [] draw))
-saying_posts k client text draw (Err refusal) = []
+abbrev saying_posts : Mechanism → Client → Content → Option (List ℕ) → Result Bool Refusal → List Post
+saying_posts k client content draw (Ok turns) = said_posts (say_on k client content (given_or [] draw))
+saying_posts k client content draw (Err refusal) = []
 
 abbrev pub act_posts : Mechanism → Client → Act → List Post
-act_posts k client (saying text draw) = saying_posts k client text draw (say_check client (length text))
+act_posts k client (saying content draw) = saying_posts k client content draw (say_check client content)
 act_posts k client _ = []
 
 -- ---- on both sides
@@ -43,16 +44,16 @@ said_grows : (s : Sides) (side : Side) (r : Result SaidText Refusal) → (said_o
 said_grows s side (Ok said) = refl
 said_grows s side (Err refusal) = sym (append-nil s.posts)
 
-saying_grows : (k : Mechanism) (s : Sides) (side : Side) (text : List ℕ) (draw : Option (List ℕ)) (r : Result Bool Refusal)
+saying_grows : (k : Mechanism) (s : Sides) (side : Side) (content : Content) (draw : Option (List ℕ)) (r : Result Bool Refusal)
     → is_some draw ≡ needs_seed r → (is_some draw ≡ true → s.draws.given ≡ draw)
-    → (saying_on k s side text r).next.posts ≡ s.posts ++ saying_posts k (client_of s side) text draw r
-saying_grows k s side text draw (Err refusal) needed given = sym (append-nil s.posts)
-saying_grows k s side text None (Ok false) needed given = said_grows s side (say_on k (client_of s side) text [])
-saying_grows k s side text (Some seed) (Ok false) needed given = absurd (let e : true ≡ false = needed in cc)
-saying_grows k s side text None (Ok true) needed given = absurd (let e : false ≡ true = needed in cc)
-saying_grows k s side text (Some seed) (Ok true) needed given =
-    said_grows (record s { draws = after_draw s.draws }) side (say_on k (client_of s side) text (next_seed s.key s.draws))
-    ∙ ap (λ (seed : List ℕ). s.posts ++ said_posts (say_on k (client_of s side) text seed))
+    → (saying_on k s side content r).next.posts ≡ s.posts ++ saying_posts k (client_of s side) content draw r
+saying_grows k s side content draw (Err refusal) needed given = sym (append-nil s.posts)
+saying_grows k s side content None (Ok false) needed given = said_grows s side (say_on k (client_of s side) content [])
+saying_grows k s side content (Some seed) (Ok false) needed given = absurd (let e : true ≡ false = needed in cc)
+saying_grows k s side content None (Ok true) needed given = absurd (let e : false ≡ true = needed in cc)
+saying_grows k s side content (Some seed) (Ok true) needed given =
+    said_grows (record s { draws = after_draw s.draws }) side (say_on k (client_of s side) content (next_seed s.key s.draws))
+    ∙ ap (λ (seed : List ℕ). s.posts ++ said_posts (say_on k (client_of s side) content seed))
     (ap (given_or (drawn s.key s.draws.made)) (given refl))
 
 settled_grows : (s : Sides) (side : Side) (r : Result (Step Client) Refusal) → (settled_on s side r).next.posts ≡ s.posts ++ []
@@ -64,9 +65,9 @@ settled_grows s side (Err refusal) = sym (append-nil s.posts)
 acted_grows : (k : Mechanism) (w : World) (side : Side) (act : Act) → IsLawfulWorld k w → IsFairAct k w side act
     → (step_on k (sides_of k (world_for w act)) (event_of side act)).next.posts
     ≡ posts k (world_for w act).conversation ++ act_posts k (client_of (sides_of k (world_for w act)) side) act
-acted_grows k w side (saying text draw) lawful fair =
+acted_grows k w side (saying content draw) lawful fair =
     let s = sides_of k (with_draw w draw) in
-    saying_grows k s side text draw (say_check (client_of s side) (length text)) (same_need k w side (length text) draw lawful fair)
+    saying_grows k s side content draw (say_check (client_of s side) content) (same_need k w side content draw lawful fair)
     (draw_given k w draw)
 acted_grows k w side (taking bytes) lawful fair =
     settled_grows (sides_of k w) side (act_on k (client_of (sides_of k w) side) (taking bytes))
@@ -80,7 +81,7 @@ draw_leaves k w None = refl
 draw_leaves k w (Some seed) = refl
 
 posts_for : (k : Mechanism) (w : World) (act : Act) → posts k (world_for w act).conversation ≡ posts k w.conversation
-posts_for k w (saying text draw) = draw_leaves k w draw
+posts_for k w (saying content draw) = draw_leaves k w draw
 posts_for k w act = refl
 
 pub act_grows : (k : Mechanism) (w : World) (side : Side) (act : Act) → IsLawfulMechanism k → IsLawfulWorld k w → IsFairAct k w side act

@@ -146,7 +146,7 @@ pub client-grown : (k : Mechanism) (c : Conversation) (seeds : List (List ℕ)) 
     → All (λ s. s.epoch ≤ length c.seeds) c.said → All (HasArrived c v) v.arrived
     → client_at k (grown c seeds epoch body) v ≡ client_at k c v
 client-grown k c seeds epoch body v same near within late peers begun arrivals =
-    let make : State → List Entry → List Post → Client = λ state inbox outbox. record { state = state; inbox = inbox; outbox = outbox } in
+    let make : State → List Entry → List Post → Client = λ state inbox outbox. record (client_at k c v) { state = state; inbox = inbox; outbox = outbox } in
     ap₂ (λ state inbox. make state inbox (outbox_of k (grown c seeds epoch body) v))
     (state-grown k c seeds epoch body v same near within peers) (inbox-grown c seeds epoch body v arrivals)
     ∙ ap (λ posts. make (state_of k c v) (inbox_of c v) (drop v.dropped posts))

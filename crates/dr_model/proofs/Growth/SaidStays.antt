@@ -8,6 +8,7 @@ use Rattle.dr_base.specs.declared.position.Position.{Position}
 use Rattle.dr_base.specs.declared.position.Side.{Side}
 use Rattle.dr_base.specs.declared.position.Side.TheVariants.{First, Second}
 use Rattle.kem_laws.specs.Mechanism.{Mechanism}
+use Rattle.session_model.specs.Contents.{Content}
 use Rattle.session_model.specs.Leaving.{drop_check}
 use Rattle.session_model.specs.declared.answer.Answer.TheVariants.{Opened}
 use Rattle.session_model.specs.declared.answer.Refusal.{Refusal}
@@ -84,30 +85,30 @@ left_leaves k w side which =
     (with_view_leaves w side after)
 
 -- a text is said, or refused
-here_keeps : (w : World) (side : Side) (text : List ℕ) (P : Conversation → Type 0)
-    → P (with_text w.conversation (view_of w side).epoch (body_in w.conversation (view_of w side) text))
-    → P (said_here w side text).next.conversation
-here_keeps w First text P here = here
-here_keeps w Second text P here = here
+here_keeps : (w : World) (side : Side) (content : Content) (P : Conversation → Type 0)
+    → P (with_text w.conversation (view_of w side).epoch (body_in w.conversation (view_of w side) content))
+    → P (said_here w side content).next.conversation
+here_keeps w First content P here = here
+here_keeps w Second content P here = here
 
-next_keeps : (w : World) (side : Side) (seed text : List ℕ) (none : Bool) (P : Conversation → Type 0) → P w.conversation
-    → P (with_turn w.conversation seed ((view_of w side).epoch + 1) (body_in w.conversation (view_of w side) text))
-    → P (if none then settled (drawn_in w) (Err NoPair) else said_next (drawn_in w) side seed text).next.conversation
-next_keeps w side seed text true P still next = still
-next_keeps w First seed text false P still next = next
-next_keeps w Second seed text false P still next = next
+next_keeps : (w : World) (side : Side) (seed : List ℕ) (content : Content) (none : Bool) (P : Conversation → Type 0) → P w.conversation
+    → P (with_turn w.conversation seed ((view_of w side).epoch + 1) (body_in w.conversation (view_of w side) content))
+    → P (if none then settled (drawn_in w) (Err NoPair) else said_next (drawn_in w) side seed content).next.conversation
+next_keeps w side seed content true P still next = still
+next_keeps w First seed content false P still next = next
+next_keeps w Second seed content false P still next = next
 
-saying_keeps : (k : Mechanism) (w : World) (side : Side) (text : List ℕ) (r : Result Bool Refusal)
+saying_keeps : (k : Mechanism) (w : World) (side : Side) (content : Content) (r : Result Bool Refusal)
     (P : Conversation → Type 0) → P w.conversation
-    → P (with_text w.conversation (view_of w side).epoch (body_in w.conversation (view_of w side) text))
+    → P (with_text w.conversation (view_of w side).epoch (body_in w.conversation (view_of w side) content))
     → ((seed : List ℕ)
-    → P (with_turn w.conversation seed ((view_of w side).epoch + 1) (body_in w.conversation (view_of w side) text)))
-    → P (saying_in k w side text r).next.conversation
-saying_keeps k w side text (Err refusal) P still here next = still
-saying_keeps k w side text (Ok false) P still here next = here_keeps w side text P here
-saying_keeps k w side text (Ok true) P still here next =
+    → P (with_turn w.conversation seed ((view_of w side).epoch + 1) (body_in w.conversation (view_of w side) content)))
+    → P (saying_in k w side content r).next.conversation
+saying_keeps k w side content (Err refusal) P still here next = still
+saying_keeps k w side content (Ok false) P still here next = here_keeps w side content P here
+saying_keeps k w side content (Ok true) P still here next =
     let seed = next_seed w.conversation.key w.draws in
-    next_keeps w side seed text (is_none (k.meaning.pair_of seed)) P still (next seed)
+    next_keeps w side seed content (is_none (k.meaning.pair_of seed)) P still (next seed)
 
 -- so a property of the conversation holds after a step, if one text more keeps it
 pub step_keeps : (k : Mechanism) (w : World) (h : Event) (P : Conversation → Type 0) → P w.conversation
@@ -117,9 +118,9 @@ pub step_keeps : (k : Mechanism) (w : World) (h : Event) (P : Conversation → T
 step_keeps k w (seeds seed) P still here next = still
 step_keeps k w (does side call) P still here next =
     of_call k w side (λ made. P made.next.conversation) (record {
-      text = λ text.
-          let body = body_in w.conversation (view_of w side) text in
-          saying_keeps k w side text (may_say k w side (length text)) P still (here side body)
+      content = λ content.
+          let body = body_in w.conversation (view_of w side) content in
+          saying_keeps k w side content (may_say k w side content) P still (here side body)
           (λ seed. next side seed body);
       packet = λ at said. subst P (sym (at_leaves w side at)) still;
       bytes = λ given. subst P (sym (given_leaves k w side given)) still;

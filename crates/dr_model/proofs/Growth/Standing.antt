@@ -7,7 +7,7 @@ use Rattle.std.proofs.lemmas.List.Folds.{list_any-append}
 use Rattle.bodies.proofs.Enough.{none_first}
 use Rattle.dr_base.specs.Position.{is_at}
 use Rattle.dr_base.specs.declared.position.Position.{Position}
-use Rattle.dr_model.specs.Conversations.Standing.{AreApart, AreDone, done_first, is_in, standing}
+use Rattle.dr_model.specs.Conversations.Standing.{AreApart, AreDone, done_first, done_which, is_in, standing}
 use Rattle.dr_model.proofs.Growth.Apart.{all_in, any_all, apart_append, apart_filter, apart_take, filter_alike, filter_none, in_filter, without_first}
 
 not_either : (a b : Bool) → not (a || b) ≡ (not a && not b)
@@ -62,6 +62,41 @@ first_done arrived done n apart are =
           (All-take (λ p. is_in arrived p ≡ true) n stood
           (All-filter (λ p. not (is_in done p)) (λ p. is_in arrived p ≡ true) arrived (all_in arrived)));
     }
+
+-- those that pass a test are done: those that don't pass it stand
+pub which_leave : (goes : Position → Bool) (arrived done : List Position)
+    → standing arrived (done_which goes arrived done) ≡ filter (λ p. not (goes p)) (standing arrived done)
+which_leave goes arrived done =
+    let stood = standing arrived done in
+    stands_of arrived done (filter goes stood)
+    ∙ filter_alike (λ p. not (is_in (filter goes stood) p)) (λ p. not (goes p)) stood
+    (λ p is. ap not (in_filter goes stood p ∙ ap (λ b. goes p && b) is ∙ and_true (goes p)))
+  where
+    and_true : (b : Bool) → (b && true) ≡ b
+    and_true true = refl
+    and_true false = refl
+
+pub which_done : (goes : Position → Bool) (arrived done : List Position) → AreApart arrived → AreDone arrived done
+    → AreDone arrived (done_which goes arrived done)
+which_done goes arrived done apart are =
+    let stood = standing arrived done in
+    record {
+      once = apart_append done (filter goes stood) are.once
+          (apart_filter goes stood (apart_filter (λ p. not (is_in done p)) arrived apart)) elsewhere;
+      had = All-append (λ p. is_in arrived p ≡ true) done (filter goes stood) are.had
+          (All-filter goes (λ p. is_in arrived p ≡ true) stood
+          (All-filter (λ p. not (is_in done p)) (λ p. is_in arrived p ≡ true) arrived (all_in arrived)));
+    }
+  where
+    elsewhere : (p : Position) → is_in done p ≡ true → is_in (filter goes (standing arrived done)) p ≡ false
+    elsewhere p is =
+        in_filter goes (standing arrived done) p
+        ∙ ap (λ b. goes p && b) (in_filter (λ q. not (is_in done q)) arrived p ∙ none_of (is_in done p) (is_in arrived p) is)
+        ∙ and_false (goes p)
+      where
+        and_false : (b : Bool) → (b && false) ≡ false
+        and_false true = refl
+        and_false false = refl
 
 -- one more has arrived: it stands last
 pub last_stands : (arrived done : List Position) (p : Position) → AreDone arrived done → is_in arrived p ≡ false

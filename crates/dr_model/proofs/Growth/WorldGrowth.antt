@@ -9,6 +9,7 @@ use Rattle.dr_base.specs.declared.position.Position.{Position}
 use Rattle.dr_base.specs.declared.position.Side.{Side}
 use Rattle.dr_base.specs.declared.position.Side.TheVariants.{First, Second}
 use Rattle.kem_laws.specs.Mechanism.{Mechanism}
+use Rattle.session_model.specs.Contents.{Content}
 use Rattle.session_model.specs.declared.answer.Answer.{Answer}
 use Rattle.session_model.specs.declared.answer.Answer.TheVariants.{Dropped, Opened, Nothing, Refused}
 use Rattle.session_model.specs.Leaving.{drop_check}
@@ -16,7 +17,7 @@ use Rattle.session_model.specs.declared.answer.Items.TheVariants.{Packets, Texts
 use Rattle.session_model.specs.declared.answer.Refusal.{Refusal}
 use Rattle.session_model.specs.declared.answer.Refusal.TheVariants.{NoPair, OwnPacket, Spent, SkipLimit, InboxFull}
 use Rattle.session_model.specs.declared.answer.Which.{Which}
-use Rattle.session_model.specs.declared.answer.Which.TheVariants.{Oldest}
+use Rattle.session_model.specs.declared.answer.Which.TheVariants.{OfId, Oldest}
 use Rattle.dr_model.specs.Conversations.Conversation.{Conversation}
 use Rattle.dr_model.specs.Conversations.ViewStates.{state_of}
 use Rattle.dr_model.specs.Conversations.Views.{View, after_drop, has_opened, after_opening, missing_of}
@@ -80,6 +81,7 @@ with_view_gains w Second v Second gains = gains
 same_arrived : (c : Conversation) (v : View) (which : Which) → (after_drop c v which).arrived ≡ v.arrived
 same_arrived c v (Oldest Texts n) = refl
 same_arrived c v (Oldest Packets n) = refl
+same_arrived c v (OfId id) = refl
 
 left_sound : (k : Mechanism) (w : World) (side : Side) (which : Which) → IsSettled w (dropping_in k w side which)
 left_sound k w side which =
@@ -133,39 +135,39 @@ talk_gains w conversation draws First = same refl
 talk_gains w conversation draws Second = same refl
 
 -- nor where a side says a text, in its epoch or in the next
-here_gains : (w : World) (side : Side) (text : List ℕ) (other : Side)
-    → Gains (view_of w other).arrived (view_of (said_here w side text).next other).arrived
-here_gains w First text First = same refl
-here_gains w First text Second = same refl
-here_gains w Second text First = same refl
-here_gains w Second text Second = same refl
+here_gains : (w : World) (side : Side) (content : Content) (other : Side)
+    → Gains (view_of w other).arrived (view_of (said_here w side content).next other).arrived
+here_gains w First content First = same refl
+here_gains w First content Second = same refl
+here_gains w Second content First = same refl
+here_gains w Second content Second = same refl
 
-turn_gains : (w : World) (side : Side) (seed text : List ℕ) (other : Side)
-    → Gains (view_of w other).arrived (view_of (said_next (drawn_in w) side seed text).next other).arrived
-turn_gains w First seed text First = same refl
-turn_gains w First seed text Second = same refl
-turn_gains w Second seed text First = same refl
-turn_gains w Second seed text Second = same refl
+turn_gains : (w : World) (side : Side) (seed : List ℕ) (content : Content) (other : Side)
+    → Gains (view_of w other).arrived (view_of (said_next (drawn_in w) side seed content).next other).arrived
+turn_gains w First seed content First = same refl
+turn_gains w First seed content Second = same refl
+turn_gains w Second seed content First = same refl
+turn_gains w Second seed content Second = same refl
 
 -- in the side's epoch
-here_sound : (w : World) (side : Side) (text : List ℕ) → IsSound w (said_here w side text)
-here_sound w side text = record { gains = here_gains w side text; refused = λ refusal e. cc }
+here_sound : (w : World) (side : Side) (content : Content) → IsSound w (said_here w side content)
+here_sound w side content = record { gains = here_gains w side content; refused = λ refusal e. cc }
 
 -- in its next one, with a draw
-next_sound : (w : World) (side : Side) (seed text : List ℕ) (none : Bool)
-    → IsSound w (if none then settled (drawn_in w) (Err NoPair) else said_next (drawn_in w) side seed text)
-next_sound w side seed text none =
-    cond_both none (settled (drawn_in w) (Err NoPair)) (said_next (drawn_in w) side seed text) (IsSound w)
+next_sound : (w : World) (side : Side) (seed : List ℕ) (content : Content) (none : Bool)
+    → IsSound w (if none then settled (drawn_in w) (Err NoPair) else said_next (drawn_in w) side seed content)
+next_sound w side seed content none =
+    cond_both none (settled (drawn_in w) (Err NoPair)) (said_next (drawn_in w) side seed content) (IsSound w)
     (λ _. record { gains = talk_gains w w.conversation (after_draw w.draws); refused = λ _ _. (refl, refl, refl) })
-    (λ _. record { gains = turn_gains w side seed text; refused = λ refusal e. cc })
+    (λ _. record { gains = turn_gains w side seed content; refused = λ refusal e. cc })
 
 -- or refused
-saying_sound : (k : Mechanism) (w : World) (side : Side) (text : List ℕ) (r : Result Bool Refusal)
-    → IsSound w (saying_in k w side text r)
-saying_sound k w side text (Err refusal) = err_sound w refusal
-saying_sound k w side text (Ok false) = here_sound w side text
-saying_sound k w side text (Ok true) =
-    let seed = next_seed w.conversation.key w.draws in next_sound w side seed text (is_none (k.meaning.pair_of seed))
+saying_sound : (k : Mechanism) (w : World) (side : Side) (content : Content) (r : Result Bool Refusal)
+    → IsSound w (saying_in k w side content r)
+saying_sound k w side content (Err refusal) = err_sound w refusal
+saying_sound k w side content (Ok false) = here_sound w side content
+saying_sound k w side content (Ok true) =
+    let seed = next_seed w.conversation.key w.draws in next_sound w side seed content (is_none (k.meaning.pair_of seed))
 
 -- ---- any event
 
@@ -175,7 +177,7 @@ step_sound k w (seeds seed) =
     record { gains = talk_gains w w.conversation (record w.draws { given = Some seed }); refused = λ refusal e. cc }
 step_sound k w (does side call) =
     of_call k w side (IsSound w) (record {
-      text = λ text. saying_sound k w side text (may_say k w side (length text));
+      content = λ content. saying_sound k w side content (may_say k w side content);
       packet = λ at said. at_sound w side at;
       bytes = given_sound k w side;
       drop = left_sound k w side;

@@ -41,7 +41,7 @@ drafted k s body seed (in_peers public) draft e = drafted_turn s body public (tu
 
 drafts_next : (k : Mechanism) (s : State) (draft : SendDraft) → IsSendDraft k s draft → IsNextDraft s.phase draft
 unfolding draft_send
-drafts_next k s draft d = drafted k s (body_of s d.text) d.seed s.phase draft d.gives
+drafts_next k s draft d = drafted k s (body_of s d.content) d.seed s.phase draft d.gives
 
 -- once a draft is accepted, no other draft of the state before is one of the state that stands then
 pub one_accepted : (k : Mechanism) (s : State) (first second : SendDraft) → IsSendDraft k s first → IsSendDraft k s second

@@ -5,11 +5,11 @@ use Rattle.bodies.specs.Bodies.{Body}
 use Rattle.bodies.specs.Receipts.{Receipt, receipt_up_to}
 use Rattle.bodies.specs.declared.format.Format.{Format}
 use Rattle.bodies.specs.declared.format.Format.TheVariants.{Padded, Plain, Receipts}
-use Rattle.boxes.specs.declared.kinds.TheConstants.{TEXT_KIND}
 use Rattle.dr_base.specs.Position.{position_at}
 use Rattle.dr_base.specs.declared.key.Kept.{Kept}
 use Rattle.dr_base.specs.declared.position.Position.{Position}
 use Rattle.kem_laws.specs.Mechanism.{Mechanism}
+use Rattle.session_model.specs.Contents.{Content}
 use Rattle.session_model.specs.Saying.{body_of, read_up_to, receipt_in, receipt_of}
 use Rattle.session_model.specs.States.{receiving_epoch}
 use Rattle.dr_model.specs.Conversations.Conversation.{Conversation}
@@ -43,8 +43,8 @@ receipt_by k c v Plain = refl
 receipt_by k c v Padded = refl
 receipt_by k c v Receipts = same_receipt k c v
 
-pub same_body : (k : Mechanism) (c : Conversation) (v : View) (text : List ℕ)
-    → body_of (state_of k c v) text ≡ body_in c v text
-same_body k c v text =
-    ap (λ (receipt : Option Receipt). let body : Body = record { receipt = receipt; kind = TEXT_KIND; content = text } in body)
+pub same_body : (k : Mechanism) (c : Conversation) (v : View) (content : Content)
+    → body_of (state_of k c v) content ≡ body_in c v content
+same_body k c v content =
+    ap (λ (receipt : Option Receipt). let body : Body = record { receipt = receipt; kind = content.kind; content = content.bytes } in body)
     (receipt_by k c v (side_format c.formats v.side))

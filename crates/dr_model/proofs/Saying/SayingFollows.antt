@@ -8,6 +8,7 @@ use Rattle.dr_base.specs.declared.position.Side.{Side}
 use Rattle.dr_base.specs.declared.position.Side.TheVariants.{First, Second}
 use Rattle.dr_base.proofs.Parity.{own_after, own_peer}
 use Rattle.kem_laws.specs.Mechanism.{Mechanism, IsLawfulMechanism}
+use Rattle.session_model.specs.Contents.{Content}
 use Rattle.session_model.specs.Clients.{Client, say_on}
 use Rattle.session_model.specs.Sealing.{posted}
 use Rattle.session_model.specs.declared.answer.Answer.TheVariants.{Said}
@@ -71,28 +72,28 @@ peer_keeps_turn k c side v u seed body world lawful other peers =
     world.begun other.arrivals)
 
 -- what the side itself answers
-says_own : (k : Mechanism) (c : Conversation) (side : Side) (v : View) (text : List ℕ) → IsLawfulConversation k c
+says_own : (k : Mechanism) (c : Conversation) (side : Side) (v : View) (content : Content) → IsLawfulConversation k c
     → IsLawfulView k c side v → is_own side v.epoch ≡ true
-    → say_on k (client_at k c v) text []
+    → say_on k (client_at k c v) content []
     ≡ Ok (record {
-      post = post_at k (with_text c v.epoch (body_in c v text)) (next_position c.said v.epoch);
-      next = client_at k (with_text c v.epoch (body_in c v text)) (said_view c v);
+      post = post_at k (with_text c v.epoch (body_in c v content)) (next_position c.said v.epoch);
+      next = client_at k (with_text c v.epoch (body_in c v content)) (said_view c v);
     })
-says_own k c side v text world lawful own =
-    say_on-own k c v text
+says_own k c side v content world lawful own =
+    say_on-own k c v content
     (own_in k c side v v.epoch true lawful own) lawful.reached lawful.near_end world.begun lawful.arrivals
     (dropped_in k c side v lawful)
 
-says_turn : (k : Mechanism) (c : Conversation) (side : Side) (v : View) (text seed : List ℕ) → IsLawfulConversation k c
+says_turn : (k : Mechanism) (c : Conversation) (side : Side) (v : View) (content : Content) (seed : List ℕ) → IsLawfulConversation k c
     → IsLawfulView k c side v → is_own side v.epoch ≡ false
     → is_some (k.meaning.pair_of seed) ≡ true
-    → say_on k (client_at k c v) text seed
+    → say_on k (client_at k c v) content seed
     ≡ Ok (record {
-      post = post_at k (with_turn c seed (v.epoch + 1) (body_in c v text)) (next_position c.said (v.epoch + 1));
-      next = client_at k (with_turn c seed (v.epoch + 1) (body_in c v text)) (after_turn v);
+      post = post_at k (with_turn c seed (v.epoch + 1) (body_in c v content)) (next_position c.said (v.epoch + 1));
+      next = client_at k (with_turn c seed (v.epoch + 1) (body_in c v content)) (after_turn v);
     })
-says_turn k c side v text seed world lawful peers pairs =
-    say_on-turn k c v text seed pairs (own_in k c side v v.epoch false lawful peers)
+says_turn k c side v content seed world lawful peers pairs =
+    say_on-turn k c v content seed pairs (own_in k c side v v.epoch false lawful peers)
     (at_last k c side v lawful peers) world.begun lawful.arrivals (dropped_in k c side v lawful)
 
 -- all packets
@@ -113,90 +114,90 @@ posts_turn k c side v seed body world lawful =
 
 -- ---- what is said
 
-said_here-follows : (k : Mechanism) (w : World) (side : Side) (text : List ℕ) → IsLawfulWorld k w
+said_here-follows : (k : Mechanism) (w : World) (side : Side) (content : Content) → IsLawfulWorld k w
     → is_own side (view_of w side).epoch ≡ true
-    → saying_on k (sides_of k w) side text (Ok false) ≡ seen_world k (said_here w side text)
+    → saying_on k (sides_of k w) side content (Ok false) ≡ seen_world k (said_here w side content)
 unfolding posted
-said_here-follows k w First text lawful own =
+said_here-follows k w First content lawful own =
     let c = w.conversation in
-    ap (said_on (sides_of k w) First) (says_own k c First w.first text lawful.conversation lawful.first own)
+    ap (said_on (sides_of k w) First) (says_own k c First w.first content lawful.conversation lawful.first own)
     ∙ ap (step (Said (next_position c.said w.first.epoch)))
     (same_sides c.key w.draws _ _ _ _ _ _ refl
-    (peer_keeps k c First w.first w.second (body_in c w.first text) lawful.conversation lawful.first lawful.second own)
-    (posts_own k c First w.first (body_in c w.first text) lawful.conversation lawful.first))
-said_here-follows k w Second text lawful own =
+    (peer_keeps k c First w.first w.second (body_in c w.first content) lawful.conversation lawful.first lawful.second own)
+    (posts_own k c First w.first (body_in c w.first content) lawful.conversation lawful.first))
+said_here-follows k w Second content lawful own =
     let c = w.conversation in
-    ap (said_on (sides_of k w) Second) (says_own k c Second w.second text lawful.conversation lawful.second own)
+    ap (said_on (sides_of k w) Second) (says_own k c Second w.second content lawful.conversation lawful.second own)
     ∙ ap (step (Said (next_position c.said w.second.epoch)))
     (same_sides c.key w.draws _ _ _ _ _ _
-    (peer_keeps k c Second w.second w.first (body_in c w.second text) lawful.conversation lawful.second lawful.first own) refl
-    (posts_own k c Second w.second (body_in c w.second text) lawful.conversation lawful.second))
+    (peer_keeps k c Second w.second w.first (body_in c w.second content) lawful.conversation lawful.second lawful.first own) refl
+    (posts_own k c Second w.second (body_in c w.second content) lawful.conversation lawful.second))
 
 -- the world once a draw was made
 abbrev pub drawn_in : World → World
 drawn_in w = record w { draws = after_draw w.draws }
 
-said_next-follows : (k : Mechanism) (w : World) (side : Side) (seed text : List ℕ) → IsLawfulWorld k w
+said_next-follows : (k : Mechanism) (w : World) (side : Side) (seed : List ℕ) (content : Content) → IsLawfulWorld k w
     → is_own side (view_of w side).epoch ≡ false
     → is_some (k.meaning.pair_of seed) ≡ true
-    → said_on (sides_of k (drawn_in w)) side (say_on k (client_of (sides_of k w) side) text seed)
-    ≡ seen_world k (said_next (drawn_in w) side seed text)
+    → said_on (sides_of k (drawn_in w)) side (say_on k (client_of (sides_of k w) side) content seed)
+    ≡ seen_world k (said_next (drawn_in w) side seed content)
 unfolding posted
-said_next-follows k w First seed text lawful peers pairs =
+said_next-follows k w First seed content lawful peers pairs =
     let c = w.conversation in
     ap (said_on (sides_of k (drawn_in w)) First)
-    (says_turn k c First w.first text seed lawful.conversation lawful.first peers pairs)
+    (says_turn k c First w.first content seed lawful.conversation lawful.first peers pairs)
     ∙ ap₂ (λ place sides. step {S = Sides} (Said place) sides)
     (first_place c w.first.epoch lawful.conversation.begun (at_last k c First w.first lawful.first peers))
     (same_sides c.key (after_draw w.draws) _ _ _ _ _ _ refl
-    (peer_keeps_turn k c First w.first w.second seed (body_in c w.first text) lawful.conversation lawful.first lawful.second peers)
-    (posts_turn k c First w.first seed (body_in c w.first text) lawful.conversation lawful.first))
-said_next-follows k w Second seed text lawful peers pairs =
+    (peer_keeps_turn k c First w.first w.second seed (body_in c w.first content) lawful.conversation lawful.first lawful.second peers)
+    (posts_turn k c First w.first seed (body_in c w.first content) lawful.conversation lawful.first))
+said_next-follows k w Second seed content lawful peers pairs =
     let c = w.conversation in
     ap (said_on (sides_of k (drawn_in w)) Second)
-    (says_turn k c Second w.second text seed lawful.conversation lawful.second peers pairs)
+    (says_turn k c Second w.second content seed lawful.conversation lawful.second peers pairs)
     ∙ ap₂ (λ place sides. step {S = Sides} (Said place) sides)
     (first_place c w.second.epoch lawful.conversation.begun (at_last k c Second w.second lawful.second peers))
     (same_sides c.key (after_draw w.draws) _ _ _ _ _ _
-    (peer_keeps_turn k c Second w.second w.first seed (body_in c w.second text) lawful.conversation lawful.second lawful.first peers) refl
-    (posts_turn k c Second w.second seed (body_in c w.second text) lawful.conversation lawful.second))
+    (peer_keeps_turn k c Second w.second w.first seed (body_in c w.second content) lawful.conversation lawful.second lawful.first peers) refl
+    (posts_turn k c Second w.second seed (body_in c w.second content) lawful.conversation lawful.second))
 
 -- without a pair nothing is said
-says_none : (k : Mechanism) (w : World) (side : Side) (seed text : List ℕ) → IsLawfulWorld k w
+says_none : (k : Mechanism) (w : World) (side : Side) (seed : List ℕ) (content : Content) → IsLawfulWorld k w
     → is_own side (view_of w side).epoch ≡ false
-    → k.meaning.pair_of seed ≡ None → say_on k (client_of (sides_of k w) side) text seed ≡ Err NoPair
-says_none k w First seed text lawful peers none =
-    say_on-none k w.conversation w.first text seed none
+    → k.meaning.pair_of seed ≡ None → say_on k (client_of (sides_of k w) side) content seed ≡ Err NoPair
+says_none k w First seed content lawful peers none =
+    say_on-none k w.conversation w.first content seed none
     (own_in k w.conversation First w.first w.first.epoch false lawful.first peers)
-says_none k w Second seed text lawful peers none =
-    say_on-none k w.conversation w.second text seed none
+says_none k w Second seed content lawful peers none =
+    say_on-none k w.conversation w.second content seed none
     (own_in k w.conversation Second w.second w.second.epoch false lawful.second peers)
 
 -- whether the seed has a pair or not
-turn-follows : (k : Mechanism) (w : World) (side : Side) (seed text : List ℕ) (pair : Option (List ℕ × List ℕ))
+turn-follows : (k : Mechanism) (w : World) (side : Side) (seed : List ℕ) (content : Content) (pair : Option (List ℕ × List ℕ))
     → IsLawfulWorld k w
     → is_own side (view_of w side).epoch ≡ false → k.meaning.pair_of seed ≡ pair
-    → said_on (sides_of k (drawn_in w)) side (say_on k (client_of (sides_of k w) side) text seed)
-    ≡ seen_world k (if is_none pair then settled (drawn_in w) (Err NoPair) else said_next (drawn_in w) side seed text)
-turn-follows k w side seed text None lawful peers is =
-    ap (said_on (sides_of k (drawn_in w)) side) (says_none k w side seed text lawful peers is)
-turn-follows k w side seed text (Some pair) lawful peers is =
-    said_next-follows k w side seed text lawful peers (ap is_some is)
+    → said_on (sides_of k (drawn_in w)) side (say_on k (client_of (sides_of k w) side) content seed)
+    ≡ seen_world k (if is_none pair then settled (drawn_in w) (Err NoPair) else said_next (drawn_in w) side seed content)
+turn-follows k w side seed content None lawful peers is =
+    ap (said_on (sides_of k (drawn_in w)) side) (says_none k w side seed content lawful peers is)
+turn-follows k w side seed content (Some pair) lawful peers is =
+    said_next-follows k w side seed content lawful peers (ap is_some is)
 
 -- ---- the answer
 
-saying-follows : (k : Mechanism) (w : World) (side : Side) (text : List ℕ) (r : Result Bool Refusal) → IsLawfulWorld k w
-    → may_say k w side (length text) ≡ r
-    → saying_on k (sides_of k w) side text r ≡ seen_world k (saying_in k w side text r)
-saying-follows k w side text (Err refusal) lawful is = refl
-saying-follows k w side text (Ok false) lawful is =
-    said_here-follows k w side text lawful (own_where k w side (length text) false is)
-saying-follows k w side text (Ok true) lawful is =
+saying-follows : (k : Mechanism) (w : World) (side : Side) (content : Content) (r : Result Bool Refusal) → IsLawfulWorld k w
+    → may_say k w side content ≡ r
+    → saying_on k (sides_of k w) side content r ≡ seen_world k (saying_in k w side content r)
+saying-follows k w side content (Err refusal) lawful is = refl
+saying-follows k w side content (Ok false) lawful is =
+    said_here-follows k w side content lawful (own_where k w side content false is)
+saying-follows k w side content (Ok true) lawful is =
     let seed = next_seed w.conversation.key w.draws in
-    turn-follows k w side seed text (k.meaning.pair_of seed) lawful (own_where k w side (length text) true is) refl
+    turn-follows k w side seed content (k.meaning.pair_of seed) lawful (own_where k w side content true is) refl
 
-pub says_follows : (k : Mechanism) (w : World) (side : Side) (text : List ℕ) → IsLawfulMechanism k → IsLawfulWorld k w
-    → step_on k (sides_of k w) (does side (says text)) ≡ seen_world k (step_of k w (does side (says text)))
-says_follows k w side text law lawful =
-    ap (saying_on k (sides_of k w) side text) (same_check k w side (length text) lawful)
-    ∙ saying-follows k w side text (may_say k w side (length text)) lawful refl
+pub says_follows : (k : Mechanism) (w : World) (side : Side) (content : Content) → IsLawfulMechanism k → IsLawfulWorld k w
+    → step_on k (sides_of k w) (does side (says content)) ≡ seen_world k (step_of k w (does side (says content)))
+says_follows k w side content law lawful =
+    ap (saying_on k (sides_of k w) side content) (same_check k w side content lawful)
+    ∙ saying-follows k w side content (may_say k w side content) lawful refl

@@ -4,7 +4,7 @@ use Rattle.std.specs.Prelude.{IfSome, is_none, is_some}
 use Rattle.std.proofs.lemmas.Bool.{leb-false}
 use Rattle.std.proofs.lemmas.List.{length_push}
 use Rattle.bodies.specs.Bodies.{Body}
-use Rattle.dr_base.specs.declared.limits.TheConstants.{TEXT_LIMIT, INDEX_LIMIT, LAST_EPOCH, OUTBOX_LIMIT}
+use Rattle.dr_base.specs.declared.limits.TheConstants.{INDEX_LIMIT, LAST_EPOCH, OUTBOX_LIMIT}
 use Rattle.dr_base.specs.Position.{is_own, peer_of}
 use Rattle.dr_base.specs.declared.position.Position.{Position}
 use Rattle.dr_base.specs.declared.position.Side.{Side}
@@ -12,9 +12,11 @@ use Rattle.dr_base.specs.declared.position.Side.TheVariants.{First, Second}
 use Rattle.dr_base.proofs.Parity.{own_after, own_peer}
 use Rattle.hmac_hkdf.proofs.Lengths.{length-hmac_of}
 use Rattle.kem_laws.specs.Mechanism.{Mechanism}
+use Rattle.session_model.specs.Contents.{Content, content_check}
 use Rattle.session_model.specs.declared.answer.Refusal.{Refusal}
 use Rattle.session_model.specs.declared.answer.Refusal.TheVariants.{NoPair}
 use Rattle.dr_model.specs.Conversations.Conversation.{Conversation, count_of, with_text, with_turn}
+use Rattle.dr_model.specs.Conversations.Formats.{side_format}
 use Rattle.dr_model.specs.Conversations.Lawful.{IsSeed, IsLawfulConversation, IsLawfulView}
 use Rattle.dr_model.specs.Conversations.Receipts.{IsTrue, body_in}
 use Rattle.dr_model.specs.Conversations.Views.{View, after_turn, outbox_of}
@@ -71,13 +73,13 @@ no_other : (k : Mechanism) (c : Conversation) (side : Side) (u : View) (epoch : 
 no_other k c side u epoch own other = absurd (not_others side epoch own other)
 
 -- the side that says it, and the other
-mine_said : (k : Mechanism) (c : Conversation) (side : Side) (v : View) (text : List ℕ) → StandsIn k c side v
+mine_said : (k : Mechanism) (c : Conversation) (side : Side) (v : View) (content : Content) → StandsIn k c side v
     → is_own side v.epoch ≡ true → count_of c v.epoch < INDEX_LIMIT → length (outbox_of k c v) < OUTBOX_LIMIT
-    → IsLawfulView k (with_text c v.epoch (body_in c v text)) side (said_view c v)
-mine_said k c side v text at own few room =
-    view_text k c side v v.epoch (body_in c v text) (said_view c v).awaiting at.conversation at.view
-    (said_waits k c (body_in c v text) side v at.view (own_in k c side v v.epoch true at.view own) few)
-    (λ _. true_said k c side v text at) (λ _. room) at.view.near_end
+    → IsLawfulView k (with_text c v.epoch (body_in c v content)) side (said_view c v)
+mine_said k c side v content at own few room =
+    view_text k c side v v.epoch (body_in c v content) (said_view c v).awaiting at.conversation at.view
+    (said_waits k c (body_in c v content) side v at.view (own_in k c side v v.epoch true at.view own) few)
+    (λ _. true_said k c side v content at) (λ _. room) at.view.near_end
 
 peer_said : (k : Mechanism) (c : Conversation) (side : Side) (v u : View) (body : Body) → IsLawfulConversation k c
     → IsLawfulView k c side v → IsLawfulView k c (peer_of side) u → is_own side v.epoch ≡ true
@@ -88,49 +90,49 @@ peer_said k c side v u body world lawful other own =
     (own_in k c (peer_of side) u v.epoch false other (own_peer side v.epoch ∙ ap not own)))
     (λ mine. absurd (not_others side v.epoch own mine)) (no_other k c side u v.epoch own) lawful.near_end
 
-here_lawful : (k : Mechanism) (w : World) (side : Side) (text : List ℕ) → IsLawfulWorld k w
+here_lawful : (k : Mechanism) (w : World) (side : Side) (content : Content) → IsLawfulWorld k w
     → is_own side (view_of w side).epoch ≡ true
-    → MaySay w.conversation (view_of w side).epoch (length (outbox_in k w side)) (length text) false
-    → IsLawfulWorld k (said_here w side text).next
-here_lawful k w First text lawful own may =
+    → MaySay w.conversation (view_of w side) (length (outbox_in k w side)) content false
+    → IsLawfulWorld k (said_here w side content).next
+here_lawful k w First content lawful own may =
     let c = w.conversation in
     let e = w.first.epoch in
     let at : StandsIn k c First w.first = record { conversation = lawful.conversation; view = lawful.first } in
     let few = leb-false INDEX_LIMIT (count_of c e) may.room in
     record {
-      conversation = lawful_text k c e (body_in c w.first text) lawful.conversation lawful.first.reached
-          (may_be_said k c First w.first e text at own may.short) few;
-      first = mine_said k c First w.first text at own few may.free;
-      second = peer_said k c First w.first w.second (body_in c w.first text) lawful.conversation lawful.first lawful.second own;
+      conversation = lawful_text k c e (body_in c w.first content) lawful.conversation lawful.first.reached
+          (may_be_said k c First w.first e content at own may.checked) few;
+      first = mine_said k c First w.first content at own few may.free;
+      second = peer_said k c First w.first w.second (body_in c w.first content) lawful.conversation lawful.first lawful.second own;
       given = lawful.given;
     }
-here_lawful k w Second text lawful own may =
+here_lawful k w Second content lawful own may =
     let c = w.conversation in
     let e = w.second.epoch in
     let at : StandsIn k c Second w.second = record { conversation = lawful.conversation; view = lawful.second } in
     let few = leb-false INDEX_LIMIT (count_of c e) may.room in
     record {
-      conversation = lawful_text k c e (body_in c w.second text) lawful.conversation lawful.second.reached
-          (may_be_said k c Second w.second e text at own may.short) few;
-      first = peer_said k c Second w.second w.first (body_in c w.second text) lawful.conversation lawful.second lawful.first own;
-      second = mine_said k c Second w.second text at own few may.free;
+      conversation = lawful_text k c e (body_in c w.second content) lawful.conversation lawful.second.reached
+          (may_be_said k c Second w.second e content at own may.checked) few;
+      first = peer_said k c Second w.second w.first (body_in c w.second content) lawful.conversation lawful.second lawful.first own;
+      second = mine_said k c Second w.second content at own few may.free;
       given = lawful.given;
     }
 
 -- ---- in an epoch that begins
 
 -- the side that begins it
-mine_turned : (k : Mechanism) (c : Conversation) (side : Side) (v : View) (seed text : List ℕ) → StandsIn k c side v
+mine_turned : (k : Mechanism) (c : Conversation) (side : Side) (v : View) (seed : List ℕ) (content : Content) → StandsIn k c side v
     → is_own side v.epoch ≡ false → length (outbox_of k c v) < OUTBOX_LIMIT
-    → IsLawfulView k (with_turn c seed (v.epoch + 1) (body_in c v text)) side (after_turn v)
-mine_turned k c side v seed text at peers room =
+    → IsLawfulView k (with_turn c seed (v.epoch + 1) (body_in c v content)) side (after_turn v)
+mine_turned k c side v seed content at peers room =
     let last = at_last k c side v at.view peers in
     let theirs = own_in k c side v v.epoch false at.view peers in
-    let body = body_in c v text in
+    let body = body_in c v content in
     view-turned k c (c.seeds ++ seed ∷ []) body side v (turns_stay k c.key c.seeds seed) at.conversation.begun at.view
     (turned_waits k c (c.seeds ++ seed ∷ []) body side v at.view theirs
     (first_place c v.epoch at.conversation.begun last))
-    (true_said k c side v text at) theirs room (omega arith) (omega (arith, length_push c.seeds seed))
+    (true_said k c side v content at) theirs room (omega arith) (omega (arith, length_push c.seeds seed))
 
 -- and the other, which waits for it
 peer_turned : (k : Mechanism) (c : Conversation) (side : Side) (v u : View) (seed : List ℕ) (body : Body)
@@ -153,65 +155,67 @@ peer_turned k c side v u seed body world lawful other peers =
     (omega arith) (omega arith)
     (λ _. ap (λ t. is_own (peer_of side) (t + 1)) same ∙ own_peer side (v.epoch + 1) ∙ ap not mine)
 
-next_lawful : (k : Mechanism) (w : World) (side : Side) (seed text : List ℕ) → IsLawfulWorld k w
+next_lawful : (k : Mechanism) (w : World) (side : Side) (seed : List ℕ) (content : Content) → IsLawfulWorld k w
     → is_own side (view_of w side).epoch ≡ false → IsSeed k seed
-    → length text ≤ TEXT_LIMIT → length (outbox_in k w side) < OUTBOX_LIMIT → (view_of w side).epoch < LAST_EPOCH
-    → IsLawfulWorld k (said_next (drawn_in w) side seed text).next
-next_lawful k w First seed text lawful peers pairs short free room =
+    → content_check (side_format w.conversation.formats (view_of w side).side) content ≡ Ok tt
+    → length (outbox_in k w side) < OUTBOX_LIMIT → (view_of w side).epoch < LAST_EPOCH
+    → IsLawfulWorld k (said_next (drawn_in w) side seed content).next
+next_lawful k w First seed content lawful peers pairs checked free room =
     let c = w.conversation in
     let at : StandsIn k c First w.first = record { conversation = lawful.conversation; view = lawful.first } in
     record {
-      conversation = lawful_turn k c seed w.first.epoch (body_in c w.first text) lawful.conversation
+      conversation = lawful_turn k c seed w.first.epoch (body_in c w.first content) lawful.conversation
           (at_last k c First w.first lawful.first peers) pairs
-          (may_be_said k c First w.first (w.first.epoch + 1) text at (own_after First w.first.epoch peers) short) room;
-      first = mine_turned k c First w.first seed text at peers free;
-      second = peer_turned k c First w.first w.second seed (body_in c w.first text) lawful.conversation lawful.first lawful.second peers;
+          (may_be_said k c First w.first (w.first.epoch + 1) content at (own_after First w.first.epoch peers) checked) room;
+      first = mine_turned k c First w.first seed content at peers free;
+      second = peer_turned k c First w.first w.second seed (body_in c w.first content) lawful.conversation lawful.first lawful.second peers;
       given = tt;
     }
-next_lawful k w Second seed text lawful peers pairs short free room =
+next_lawful k w Second seed content lawful peers pairs checked free room =
     let c = w.conversation in
     let at : StandsIn k c Second w.second = record { conversation = lawful.conversation; view = lawful.second } in
     record {
-      conversation = lawful_turn k c seed w.second.epoch (body_in c w.second text) lawful.conversation
+      conversation = lawful_turn k c seed w.second.epoch (body_in c w.second content) lawful.conversation
           (at_last k c Second w.second lawful.second peers) pairs
-          (may_be_said k c Second w.second (w.second.epoch + 1) text at (own_after Second w.second.epoch peers) short) room;
-      first = peer_turned k c Second w.second w.first seed (body_in c w.second text) lawful.conversation lawful.second lawful.first peers;
-      second = mine_turned k c Second w.second seed text at peers free;
+          (may_be_said k c Second w.second (w.second.epoch + 1) content at (own_after Second w.second.epoch peers) checked) room;
+      first = peer_turned k c Second w.second w.first seed (body_in c w.second content) lawful.conversation lawful.second lawful.first peers;
+      second = mine_turned k c Second w.second seed content at peers free;
       given = tt;
     }
 
 -- whether the seed has a pair or not: a draw was made
-turn_lawful : (k : Mechanism) (w : World) (side : Side) (seed text : List ℕ) (pair : Option (List ℕ × List ℕ))
+turn_lawful : (k : Mechanism) (w : World) (side : Side) (seed : List ℕ) (content : Content) (pair : Option (List ℕ × List ℕ))
     → IsLawfulWorld k w
-    → is_own side (view_of w side).epoch ≡ false → length seed ≡ 32 → k.meaning.pair_of seed ≡ pair → length text ≤ TEXT_LIMIT
+    → is_own side (view_of w side).epoch ≡ false → length seed ≡ 32 → k.meaning.pair_of seed ≡ pair
+    → content_check (side_format w.conversation.formats (view_of w side).side) content ≡ Ok tt
     → length (outbox_in k w side) < OUTBOX_LIMIT
     → (view_of w side).epoch < LAST_EPOCH
-    → IsLawfulWorld k (if is_none pair then settled (drawn_in w) (Err NoPair) else said_next (drawn_in w) side seed text).next
-turn_lawful k w side seed text None lawful peers long is short free room = record {
+    → IsLawfulWorld k (if is_none pair then settled (drawn_in w) (Err NoPair) else said_next (drawn_in w) side seed content).next
+turn_lawful k w side seed content None lawful peers long is checked free room = record {
   conversation = lawful.conversation;
   first = lawful.first;
   second = lawful.second;
   given = tt;
 }
-turn_lawful k w side seed text (Some pair) lawful peers long is short free room =
-    next_lawful k w side seed text lawful peers (record { long = long; pairs = ap is_some is }) short free room
+turn_lawful k w side seed content (Some pair) lawful peers long is checked free room =
+    next_lawful k w side seed content lawful peers (record { long = long; pairs = ap is_some is }) checked free room
 
 -- ---- the answer
 
-saying_lawful : (k : Mechanism) (w : World) (side : Side) (text : List ℕ) (r : Result Bool Refusal) → IsLawfulWorld k w
-    → may_say k w side (length text) ≡ r
-    → IsLawfulWorld k (saying_in k w side text r).next
-saying_lawful k w side text (Err refusal) lawful is = lawful
-saying_lawful k w side text (Ok false) lawful is =
-    here_lawful k w side text lawful (own_where k w side (length text) false is)
-    (may_say-where k w side (length text) false is)
-saying_lawful k w side text (Ok true) lawful is =
-    let may = may_say-where k w side (length text) true is in
+saying_lawful : (k : Mechanism) (w : World) (side : Side) (content : Content) (r : Result Bool Refusal) → IsLawfulWorld k w
+    → may_say k w side content ≡ r
+    → IsLawfulWorld k (saying_in k w side content r).next
+saying_lawful k w side content (Err refusal) lawful is = lawful
+saying_lawful k w side content (Ok false) lawful is =
+    here_lawful k w side content lawful (own_where k w side content false is)
+    (may_say-where k w side content false is)
+saying_lawful k w side content (Ok true) lawful is =
+    let may = may_say-where k w side content true is in
     let seed = next_seed w.conversation.key w.draws in
-    turn_lawful k w side seed text (k.meaning.pair_of seed) lawful (own_where k w side (length text) true is)
-    (length-next_seed w.conversation.key w.draws lawful.given) refl may.short may.free
+    turn_lawful k w side seed content (k.meaning.pair_of seed) lawful (own_where k w side content true is)
+    (length-next_seed w.conversation.key w.draws lawful.given) refl may.checked may.free
     (leb-false LAST_EPOCH (view_of w side).epoch may.room)
 
-pub lawful_says : (k : Mechanism) (w : World) (side : Side) (text : List ℕ) → IsLawfulWorld k w
-    → IsLawfulWorld k (step_of k w (does side (says text))).next
-lawful_says k w side text lawful = saying_lawful k w side text (may_say k w side (length text)) lawful refl
+pub lawful_says : (k : Mechanism) (w : World) (side : Side) (content : Content) → IsLawfulWorld k w
+    → IsLawfulWorld k (step_of k w (does side (says content))).next
+lawful_says k w side content lawful = saying_lawful k w side content (may_say k w side content) lawful refl

@@ -12,6 +12,7 @@ use Rattle.dr_base.specs.declared.position.Side.{Side}
 use Rattle.fs_aead.specs.Chain.{chain_message_key, chain_of, next_chain, message_key}
 use Rattle.fs_aead.proofs.Streams.{chain_of-suc, message_key-suc}
 use Rattle.kem_laws.specs.Mechanism.{Mechanism}
+use Rattle.session_model.specs.Contents.{Content}
 use Rattle.session_model.specs.Clients.{Client, accept_send, say_on}
 use Rattle.session_model.specs.Saying.{draft_own, draft_phase, draft_send}
 use Rattle.session_model.specs.Schedule.{session_of}
@@ -120,17 +121,17 @@ outbox_own k c seeds epoch body v same late begun own fits =
 
 -- ---- what its session drafts, and its client answers
 
-pub draft_send-own : (k : Mechanism) (c : Conversation) (v : View) (text seed : List ℕ) → is_own v.side v.epoch ≡ true
+pub draft_send-own : (k : Mechanism) (c : Conversation) (v : View) (content : Content) (seed : List ℕ) → is_own v.side v.epoch ≡ true
     → v.epoch ≤ length c.seeds
-    → draft_send k (state_of k c v) text seed
+    → draft_send k (state_of k c v) content seed
     ≡ Some (record {
-      post = post_at k (with_text c v.epoch (body_in c v text)) (next_position c.said v.epoch);
-      next = state_of k (with_text c v.epoch (body_in c v text)) (said_view c v);
+      post = post_at k (with_text c v.epoch (body_in c v content)) (next_position c.said v.epoch);
+      next = state_of k (with_text c v.epoch (body_in c v content)) (said_view c v);
     })
 unfolding draft_send
-draft_send-own k c v text seed own within =
-    let body = body_in c v text in
-    ap₂ (λ (said : Body) phase. draft_phase k (state_of k c v) said seed phase) (same_body k c v text) (phase_own k c v own)
+draft_send-own k c v content seed own within =
+    let body = body_in c v content in
+    ap₂ (λ (said : Body) phase. draft_phase k (state_of k c v) said seed phase) (same_body k c v content) (phase_own k c v own)
     ∙ ap₂ (λ (post : Post) (next : State). Some (record { post = post; next = next })) (post_own k c v body own)
     (state_own k c v body own within)
 
@@ -138,22 +139,22 @@ draft_send-own k c v text seed own within =
 pub accepted : (client : Client) (post : Post) (state : State) (inbox : List Entry) (outbox : List Post) → client.inbox ≡ inbox
     → outbox ≡ client.outbox ++ post ∷ []
     → accept_send client (Some (record { post = post; next = state }))
-    ≡ Ok (record { post = post; next = record { state = state; inbox = inbox; outbox = outbox } })
+    ≡ Ok (record { post = post; next = record client { state = state; inbox = inbox; outbox = outbox } })
 accepted client post state inbox outbox i o =
-    ap₂ (λ a b. Ok (record { post = post; next = record { state = state; inbox = a; outbox = b } })) i (sym o)
+    ap₂ (λ a b. Ok (record { post = post; next = record client { state = state; inbox = a; outbox = b } })) i (sym o)
 
-pub say_on-own : (k : Mechanism) (c : Conversation) (v : View) (text : List ℕ) → is_own v.side v.epoch ≡ true
+pub say_on-own : (k : Mechanism) (c : Conversation) (v : View) (content : Content) → is_own v.side v.epoch ≡ true
     → v.epoch ≤ length c.seeds
     → length c.seeds ≤ v.epoch + 1 → All (λ s. s.epoch ≤ length c.seeds) c.said → All (HasArrived c v) v.arrived
     → v.dropped ≤ length (posts_of k c v.side)
-    → say_on k (client_at k c v) text []
+    → say_on k (client_at k c v) content []
     ≡ Ok (record {
-      post = post_at k (with_text c v.epoch (body_in c v text)) (next_position c.said v.epoch);
-      next = client_at k (with_text c v.epoch (body_in c v text)) (said_view c v);
+      post = post_at k (with_text c v.epoch (body_in c v content)) (next_position c.said v.epoch);
+      next = client_at k (with_text c v.epoch (body_in c v content)) (said_view c v);
     })
-say_on-own k c v text own within late begun arrivals fits =
-    let body = body_in c v text in
-    ap (accept_send (client_at k c v)) (draft_send-own k c v text [] own within)
+say_on-own k c v content own within late begun arrivals fits =
+    let body = body_in c v content in
+    ap (accept_send (client_at k c v)) (draft_send-own k c v content [] own within)
     ∙ accepted (client_at k c v) _ _ _ _
     (sym (inbox-grown c c.seeds v.epoch body v arrivals))
     (outbox_own k c c.seeds v.epoch body v (turns_same k c.key c.seeds) late begun own fits)

@@ -12,6 +12,7 @@ use Rattle.dr_base.proofs.Parity.{own_after}
 use Rattle.fs_aead.specs.Chain.{next_chain, chain_message_key, message_key}
 use Rattle.fs_aead.proofs.Streams.{chain_of-zero, chain_of-suc, message_key-suc}
 use Rattle.kem_laws.specs.Mechanism.{Mechanism}
+use Rattle.session_model.specs.Contents.{Content}
 use Rattle.session_model.specs.Clients.{accept_send, say_on}
 use Rattle.session_model.specs.Saying.{SendDraft, draft_turn, draft_phase, draft_send}
 use Rattle.session_model.specs.Schedule.{session_of}
@@ -133,56 +134,56 @@ post_turn k c v body seed peers last begun =
 -- ---- what its session drafts, and its client answers
 
 -- the draft, by the pair of the seed
-draft_by : (k : Mechanism) (c : Conversation) (v : View) (text seed : List ℕ) (pair : Option (List ℕ × List ℕ))
+draft_by : (k : Mechanism) (c : Conversation) (v : View) (content : Content) (seed : List ℕ) (pair : Option (List ℕ × List ℕ))
     → k.meaning.pair_of seed ≡ pair → is_own v.side v.epoch ≡ false
-    → draft_send k (state_of k c v) text seed
+    → draft_send k (state_of k c v) content seed
     ≡ (let sealed = k.meaning.encap_of (turn_of_epoch k c v.epoch).public seed in
-    option_map (draft_turn (state_of k c v) (body_in c v text))
+    option_map (draft_turn (state_of k c v) (body_in c v content))
     (option_map (λ pair. (pair.1, sealed.0 ++ pair.0, sealed.1)) pair))
 unfolding draft_send
-draft_by k c v text seed pair is peers =
+draft_by k c v content seed pair is peers =
     let sealed = k.meaning.encap_of (turn_of_epoch k c v.epoch).public seed in
-    ap₂ (λ (said : Body) phase. draft_phase k (state_of k c v) said seed phase) (same_body k c v text) (phase_peers k c v peers)
-    ∙ ap (λ pair. option_map (draft_turn (state_of k c v) (body_in c v text))
+    ap₂ (λ (said : Body) phase. draft_phase k (state_of k c v) said seed phase) (same_body k c v content) (phase_peers k c v peers)
+    ∙ ap (λ pair. option_map (draft_turn (state_of k c v) (body_in c v content))
     (option_map (λ pair. (pair.1, sealed.0 ++ pair.0, sealed.1)) pair)) is
 
-pub draft_send-turn : (k : Mechanism) (c : Conversation) (v : View) (text seed : List ℕ)
+pub draft_send-turn : (k : Mechanism) (c : Conversation) (v : View) (content : Content) (seed : List ℕ)
     → is_some (k.meaning.pair_of seed) ≡ true → is_own v.side v.epoch ≡ false
     → v.epoch ≡ length c.seeds → All (λ s. s.epoch ≤ length c.seeds) c.said
-    → draft_send k (state_of k c v) text seed
+    → draft_send k (state_of k c v) content seed
     ≡ Some (record {
-      post = post_at k (with_turn c seed (v.epoch + 1) (body_in c v text)) (next_position c.said (v.epoch + 1));
-      next = state_of k (with_turn c seed (v.epoch + 1) (body_in c v text)) (after_turn v);
+      post = post_at k (with_turn c seed (v.epoch + 1) (body_in c v content)) (next_position c.said (v.epoch + 1));
+      next = state_of k (with_turn c seed (v.epoch + 1) (body_in c v content)) (after_turn v);
     })
-draft_send-turn k c v text seed pairs peers last begun =
-    draft_by k c v text seed (Some (pair_at k seed)) (some_pair (k.meaning.pair_of seed) pairs) peers
+draft_send-turn k c v content seed pairs peers last begun =
+    draft_by k c v content seed (Some (pair_at k seed)) (some_pair (k.meaning.pair_of seed) pairs) peers
     ∙ ap₂ (λ (post : Post) (next : State). Some (record { post = post; next = next }))
-    (post_turn k c v (body_in c v text) seed peers last begun) (state_turn k c v (body_in c v text) seed peers last begun)
+    (post_turn k c v (body_in c v content) seed peers last begun) (state_turn k c v (body_in c v content) seed peers last begun)
 
-pub draft_send-none : (k : Mechanism) (c : Conversation) (v : View) (text seed : List ℕ) → k.meaning.pair_of seed ≡ None
+pub draft_send-none : (k : Mechanism) (c : Conversation) (v : View) (content : Content) (seed : List ℕ) → k.meaning.pair_of seed ≡ None
     → is_own v.side v.epoch ≡ false
-    → draft_send k (state_of k c v) text seed ≡ None
-draft_send-none k c v text seed none peers = draft_by k c v text seed None none peers
+    → draft_send k (state_of k c v) content seed ≡ None
+draft_send-none k c v content seed none peers = draft_by k c v content seed None none peers
 
-pub say_on-turn : (k : Mechanism) (c : Conversation) (v : View) (text seed : List ℕ)
+pub say_on-turn : (k : Mechanism) (c : Conversation) (v : View) (content : Content) (seed : List ℕ)
     → is_some (k.meaning.pair_of seed) ≡ true → is_own v.side v.epoch ≡ false
     → v.epoch ≡ length c.seeds → All (λ s. s.epoch ≤ length c.seeds) c.said → All (HasArrived c v) v.arrived
     → v.dropped ≤ length (posts_of k c v.side)
-    → say_on k (client_at k c v) text seed
+    → say_on k (client_at k c v) content seed
     ≡ Ok (record {
-      post = post_at k (with_turn c seed (v.epoch + 1) (body_in c v text)) (next_position c.said (v.epoch + 1));
-      next = client_at k (with_turn c seed (v.epoch + 1) (body_in c v text)) (after_turn v);
+      post = post_at k (with_turn c seed (v.epoch + 1) (body_in c v content)) (next_position c.said (v.epoch + 1));
+      next = client_at k (with_turn c seed (v.epoch + 1) (body_in c v content)) (after_turn v);
     })
-say_on-turn k c v text seed pairs peers last begun arrivals fits =
+say_on-turn k c v content seed pairs peers last begun arrivals fits =
     let more = c.seeds ++ seed ∷ [] in
-    let body = body_in c v text in
-    ap (accept_send (client_at k c v)) (draft_send-turn k c v text seed pairs peers last begun)
+    let body = body_in c v content in
+    ap (accept_send (client_at k c v)) (draft_send-turn k c v content seed pairs peers last begun)
     ∙ accepted (client_at k c v) _ _ _ _
     (sym (inbox-grown c more (v.epoch + 1) body v arrivals))
     (outbox_own k c more (v.epoch + 1) body v (turns_stay k c.key c.seeds seed) (omega arith) begun
     (own_after v.side v.epoch peers) fits)
 
-pub say_on-none : (k : Mechanism) (c : Conversation) (v : View) (text seed : List ℕ) → k.meaning.pair_of seed ≡ None
+pub say_on-none : (k : Mechanism) (c : Conversation) (v : View) (content : Content) (seed : List ℕ) → k.meaning.pair_of seed ≡ None
     → is_own v.side v.epoch ≡ false
-    → say_on k (client_at k c v) text seed ≡ Err NoPair
-say_on-none k c v text seed none peers = ap (accept_send (client_at k c v)) (draft_send-none k c v text seed none peers)
+    → say_on k (client_at k c v) content seed ≡ Err NoPair
+say_on-none k c v content seed none peers = ap (accept_send (client_at k c v)) (draft_send-none k c v content seed none peers)

@@ -18,7 +18,7 @@ use Rattle.session_model.specs.declared.answer.Refusal.TheVariants.{OwnPacket, S
 use Rattle.dr_model.specs.Conversations.Conversation.{Conversation, is_said, kind_at, text_at}
 use Rattle.dr_model.specs.Conversations.Lawful.{IsLawfulConversation, IsLawfulView}
 use Rattle.dr_model.specs.Conversations.Posts.{post_at}
-use Rattle.dr_model.specs.Conversations.ViewStates.{client_at, state_of}
+use Rattle.dr_model.specs.Conversations.ViewStates.{client_at, relay_in, state_of}
 use Rattle.dr_model.specs.Conversations.Views.{View, after_opening, entry_at, has_opened, inbox_of, missing_of, outbox_of}
 use Rattle.dr_model.specs.Machines.Acts.{taken_by, taking}
 use Rattle.dr_model.specs.Machines.Sides.{Sides, acted_on, client_of, settled_on}
@@ -68,13 +68,14 @@ taken_at k c v p =
         state = state_of k c (after_opening c v p);
         inbox = inbox_of c v ++ entry_at c p ∷ [];
         outbox = outbox_of k c v;
+        relay = relay_in c v;
       };
     }
 
 taken_after : (k : Mechanism) (c : Conversation) (side : Side) (v : View) (p : Position) → IsLawfulView k c side v → has_opened v p ≡ false
     → taken_at k c v p ≡ record { position = p; next = client_at k c (after_opening c v p) }
 taken_after k c side v p view new =
-    ap (λ (inbox : List Entry). record { position = p; next = record { state = state_of k c (after_opening c v p); inbox = inbox; outbox = outbox_of k c v } }) (inbox_after k c side v p view new)
+    ap (λ (inbox : List Entry). record { position = p; next = record (client_at k c (after_opening c v p)) { inbox = inbox } }) (inbox_after k c side v p view new)
 
 -- what the side answers to the packet
 answered : (k : Mechanism) (c : Conversation) (side : Side) (v : View) (p : Position) → IsLawfulMechanism k

@@ -1,16 +1,19 @@
 -- The packet of a position as a session reads it.
-use Rattle.std.proofs.Common.{◌≡◌, ℕ, ◌+◌, ◌-◌, ◌<◌, ◌≤◌, Bool, true, false, not, nat_eq, nat_le, nat_lt, List, [], ◌∷◌, length, map, slice_index_or, Option, Some, None, Ok, Err, refl, sym, ◌∙◌, ap, arith, if◌then◌else◌}
+use Rattle.std.proofs.Common.{◌≡◌, ℕ, ◌+◌, ◌-◌, ◌<◌, ◌≤◌, Bool, true, false, not, nat_eq, nat_le, nat_lt, List, [], ◌∷◌, length, map, slice_index_or, Option, Some, None, Ok, Err, refl, sym, ◌==◌, ◌∙◌, ap, arith, if◌then◌else◌, subst}
 use Rattle.std.specs.Cmp.Lexicographic.{pointwise}
 use Rattle.std.specs.Prelude.{All, filter}
-use Rattle.std.proofs.lemmas.Bool.{cond-true, cond-false, lt-leb, le-ltb}
+use Rattle.std.proofs.lemmas.Bool.{cond-true, cond-false, eqb-true, lt-leb, le-ltb}
 use Rattle.std.proofs.lemmas.Bool.Decides.{nat_tests}
 use Rattle.std.proofs.lemmas.List.{length-map, get_or-map}
 use Rattle.std.proofs.lemmas.List.Elements.{All-head, All-tail, All-filter}
 use Rattle.std.proofs.lemmas.Slice.Eq.{bytes_eq-Decides}
-use Rattle.dr_base.specs.declared.limits.TheConstants.{TEXT_LIMIT, INDEX_LIMIT}
+use Rattle.boxes.proofs.Contents.{text_content}
+use Rattle.boxes.specs.Parts.{is_content}
+use Rattle.dr_base.specs.declared.limits.TheConstants.{TEXT_LIMIT, INDEX_LIMIT, PLAIN, RECEIPTS}
 use Rattle.bodies.specs.Bodies.{Body, opened_body, sealed_body, text_body}
 use Rattle.bodies.specs.Lawful.{IsLawfulBody, IsReceiptOrNone}
 use Rattle.bodies.specs.Receipts.{Receipt}
+use Rattle.bodies.proofs.Lengths.{differs}
 use Rattle.bodies.proofs.Sealed.{sealed-opens}
 use Rattle.cka.specs.Agreement.{agreement_size}
 use Rattle.dr_base.specs.Position.{is_own, peer_of, side_of}
@@ -90,6 +93,17 @@ is_place k c p lawful said =
       short = short_text k c p.epoch (p.index - 1) lawful (omega arith);
       sealed = lawful.bodies p said;
     }
+
+-- a content of its kind stands there
+pub content_said : (c : Conversation) (p : Position) → IsPlace c p → is_content (kind_at c p) (text_at c p) ≡ true
+content_said c p place = by_version (epoch_version c p.epoch == PLAIN) refl
+  where
+    by_version : (plain : Bool) → (epoch_version c p.epoch == PLAIN) ≡ plain → is_content (kind_at c p) (text_at c p) ≡ true
+    by_version true is =
+        let version = eqb-true (epoch_version c p.epoch) PLAIN is in
+        subst (λ (kind : ℕ). is_content kind (text_at c p) ≡ true) (sym (place.sealed.kind (λ (told : epoch_version c p.epoch ≡ RECEIPTS). omega arith)))
+        (text_content (text_at c p) place.short)
+    by_version false is = place.sealed.content (differs (epoch_version c p.epoch) PLAIN is)
 
 -- ---- its packet
 

@@ -6,11 +6,12 @@ use Rattle.dr_base.specs.Position.{is_own}
 use Rattle.dr_base.specs.declared.position.Position.{Position}
 use Rattle.dr_base.specs.declared.position.Side.{Side}
 use Rattle.kem_laws.specs.Mechanism.{Mechanism}
+use Rattle.session_model.specs.Contents.{Content}
 use Rattle.session_model.specs.declared.answer.Which.{Which}
-use Rattle.session_model.specs.declared.answer.Which.TheVariants.{Oldest}
+use Rattle.session_model.specs.declared.answer.Which.TheVariants.{OfId, Oldest}
 use Rattle.dr_model.specs.Conversations.Conversation.{Conversation, is_said, positions}
 use Rattle.dr_model.specs.Conversations.Posts.{posts}
-use Rattle.dr_model.specs.Machines.Events.{PacketSource, SideCall, drops, of_bytes, of_flip, of_number, of_position, says, takes}
+use Rattle.dr_model.specs.Machines.Events.{PacketSource, SideCall, drops, drops_long, of_bytes, of_flip, of_number, of_position, says, takes}
 use Rattle.dr_model.specs.Machines.Network.{flipped_at}
 use Rattle.dr_model.specs.Machines.Steps.{Step, amount_of, settled}
 use Rattle.dr_model.specs.Machines.Worlds.{World, called_in, dropping_in, may_say, nth_of_peer, said_at, saying_in, standing_in, taking_at, taking_given, taking_of}
@@ -58,14 +59,15 @@ module _ (k : Mechanism) (w : World) (side : Side) (P : Step World → Type 0) w
 
   -- it holds of each kind
   pub record HoldsOfKinds : Type 0 where
-    pub text : (text : List ℕ) → P (saying_in k w side text (may_say k w side (length text)))
+    pub content : (content : Content) → P (saying_in k w side content (may_say k w side content))
     pub packet : (at : Option Position) → IfSome at (λ p. is_said w.conversation p ≡ true) → P (taking_at w side at)
     pub bytes : (given : Option (List ℕ)) → P (taking_given k w side given)
     pub drop : (which : Which) → P (settled w (dropping_in k w side which))
 
   -- so it holds of the call
   pub of_call : HoldsOfKinds → (call : SideCall) → P (called_in k w side call)
-  of_call holds (says text) = holds.text text
+  of_call holds (says content) = holds.content content
   of_call holds (takes source) = of_source (record { packet = holds.packet; bytes = holds.bytes }) source
   of_call holds (drops items amount) =
       holds.drop (Oldest items (amount_of amount (standing_in k w side items)))
+  of_call holds (drops_long id) = holds.drop (OfId id)

@@ -1,10 +1,12 @@
 -- Each event of a world on both sides: they answer as the machine does, and keep what stands after it.
 use Rattle.std.proofs.Common.{◌≡◌, ℕ, ◌+◌, true, List, length, map, Option, Some, None, Result, Ok, Err, refl, sym, ◌∙◌, ap, ap₂}
-use Rattle.std.specs.Prelude.{IfSome, option_map}
+use Rattle.std.specs.Prelude.{Bool, IfSome, not, option_map}
+use Rattle.boxes.proofs.Filters.{filter-shown}
+use Rattle.boxes.specs.Entries.{is_of}
 use Rattle.std.proofs.lemmas.List.{drop-drop, drop-map, length-map}
-use Rattle.dr_model.specs.Conversations.Standing.{AreApart, done_first, standing}
+use Rattle.dr_model.specs.Conversations.Standing.{AreApart, done_first, done_which, standing}
 use Rattle.dr_model.proofs.Growth.Apart.{apart_once}
-use Rattle.dr_model.proofs.Growth.Standing.{first_leave}
+use Rattle.dr_model.proofs.Growth.Standing.{first_leave, which_leave}
 use Rattle.dr_model.proofs.Worlds.WorldViews.{view_lawful}
 use Rattle.dr_base.specs.declared.position.Position.{Position}
 use Rattle.dr_base.specs.declared.position.Side.{Side}
@@ -18,13 +20,13 @@ use Rattle.session_model.specs.declared.answer.Items.{Items}
 use Rattle.session_model.specs.declared.answer.Items.TheVariants.{Packets, Texts}
 use Rattle.session_model.specs.declared.answer.Refusal.{Refusal}
 use Rattle.session_model.specs.declared.answer.Which.{Which}
-use Rattle.session_model.specs.declared.answer.Which.TheVariants.{Oldest}
+use Rattle.session_model.specs.declared.answer.Which.TheVariants.{OfId, Oldest}
 use Rattle.dr_model.specs.Conversations.Conversation.{Conversation, is_said}
 use Rattle.dr_model.specs.Conversations.Posts.{post_at, posts, posts_of, key_of}
 use Rattle.dr_model.specs.Conversations.ViewStates.{client_at, state_of}
 use Rattle.dr_model.specs.Conversations.Views.{View, after_drop, entry_at, inbox_of, missing_of, outbox_of}
 use Rattle.dr_model.specs.Machines.Acts.{act_on, dropped_client, dropping, standing_with}
-use Rattle.dr_model.specs.Machines.Events.{Event, PacketSource, SideCall, cuts, does, drops, of_bytes, of_flip, of_number, of_position, says, seeds, shows_awaiting, shows_inbox, shows_state, takes}
+use Rattle.dr_model.specs.Machines.Events.{Event, PacketSource, SideCall, cuts, does, drops, drops_long, of_bytes, of_flip, of_number, of_position, says, seeds, shows_awaiting, shows_inbox, shows_state, takes}
 use Rattle.dr_model.specs.Machines.Network.{flipped_at, packet_given}
 use Rattle.dr_model.specs.Machines.Sides.{Sides, called_on, client_of, settled_on, step_on, with_client}
 use Rattle.dr_model.specs.Machines.Steps.{Step, step, settled, amount_of, cut_step, leaving}
@@ -68,12 +70,18 @@ state_of-boxes k c v done dropped =
 same_dropped : (k : Mechanism) (c : Conversation) (v : View) (which : Which) → AreApart v.arrived
     → dropped_client (client_at k c v) which ≡ client_at k c (after_drop c v which)
 same_dropped k c v (Oldest Texts n) apart =
-    ap₂ (λ state inbox. let client : Client = record { state = state; inbox = inbox; outbox = outbox_of k c v } in client)
+    ap₂ (λ state inbox. record (client_at k c v) { state = state; inbox = inbox })
     (sym (state_of-boxes k c v (done_first v.arrived v.done n) v.dropped))
     (drop-map (entry_at c) n (standing v.arrived v.done) ∙ sym (ap (map (entry_at c)) (first_leave v.arrived v.done n apart)))
 same_dropped k c v (Oldest Packets n) apart =
-    ap₂ (λ state outbox. let client : Client = record { state = state; inbox = inbox_of c v; outbox = outbox } in client)
+    ap₂ (λ state outbox. record (client_at k c v) { state = state; outbox = outbox })
     (sym (state_of-boxes k c v v.done (v.dropped + n))) (drop-drop n v.dropped (posts_of k c v.side))
+same_dropped k c v (OfId id) apart =
+    let goes : Position → Bool = λ p. is_of id (entry_at c p) in
+    ap₂ (λ state inbox. record (client_at k c v) { state = state; inbox = inbox })
+    (sym (state_of-boxes k c v (done_which goes v.arrived v.done) v.dropped))
+    (sym (filter-shown (entry_at c) (λ entry. not (is_of id entry)) (standing v.arrived v.done))
+    ∙ sym (ap (map (entry_at c)) (which_leave goes v.arrived v.done)))
 
 with_seen : (k : Mechanism) (w : World) (side : Side) (v : View)
     → with_client (sides_of k w) side (client_at k w.conversation v) ≡ sides_of k (with_view w side v)
@@ -128,9 +136,10 @@ source_follows k w side (of_bytes bytes) law lawful unforged = bytes_follow k w 
 -- each call
 called_follows : (k : Mechanism) (w : World) (side : Side) (call : SideCall) → IsLawfulMechanism k → IsLawfulWorld k w
     → IsUnforgedCall k w side call → called_on k (sides_of k w) side call ≡ seen_world k (called_in k w side call)
-called_follows k w side (says text) law lawful unforged = says_follows k w side text law lawful
+called_follows k w side (says content) law lawful unforged = says_follows k w side content law lawful
 called_follows k w side (takes source) law lawful unforged = source_follows k w side source law lawful unforged
 called_follows k w side (drops items amount) law lawful unforged = amount_follows k w side items amount lawful
+called_follows k w side (drops_long id) law lawful unforged = drop_follows k w side (OfId id) lawful
 
 -- what a side holds, with this many missing
 abbrev in_numbers : Mechanism → World → Side → ℕ → Step Sides

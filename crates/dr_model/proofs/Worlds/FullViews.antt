@@ -42,6 +42,7 @@ full_view k c side = record {
   done = positions_of_peer c side;
   dropped = length (posts_of k c side);
   awaiting = [];
+  keyed = true;
 }
 
 -- ---- how often a position has arrived

@@ -1,6 +1,8 @@
 -- Worlds stay lawful, event by event.
 use Rattle.std.proofs.Common.{Err, List, None, Ok, Option, Result, Some, [], ap, arith, length, refl, true, ℕ, ◌+◌, ◌-◌, ◌∙◌, ◌∷◌, ◌≡◌, ◌≤◌}
-use Rattle.std.specs.Prelude.{All, IfSome}
+use Rattle.std.specs.Prelude.{All, Bool, IfSome, not}
+use Rattle.std.proofs.lemmas.List.Filters.{length-filter_both}
+use Rattle.boxes.specs.Entries.{is_of}
 use Rattle.std.proofs.lemmas.List.Elements.{All-head, All-tail, All-weaker}
 use Rattle.dr_base.specs.declared.position.Position.{Position}
 use Rattle.dr_base.specs.declared.position.Side.{Side}
@@ -8,17 +10,17 @@ use Rattle.kem_laws.specs.Mechanism.{Mechanism}
 use Rattle.session_model.specs.declared.answer.Items.TheVariants.{Packets, Texts}
 use Rattle.session_model.specs.declared.answer.Refusal.{Refusal}
 use Rattle.session_model.specs.declared.answer.Which.{Which}
-use Rattle.session_model.specs.declared.answer.Which.TheVariants.{Oldest}
+use Rattle.session_model.specs.declared.answer.Which.TheVariants.{OfId, Oldest}
 use Rattle.session_model.specs.Leaving.{drop_check}
 use Rattle.session_model.proofs.Leaving.{enough_held}
 use Rattle.dr_model.specs.Conversations.Conversation.{Conversation, is_said, receipt_at}
 use Rattle.dr_model.specs.Conversations.Lawful.{HasArrived, IsLawfulView}
 use Rattle.std.proofs.lemmas.List.{length-drop}
 use Rattle.dr_model.specs.Conversations.Posts.{posts_of}
-use Rattle.dr_model.specs.Conversations.Standing.{AreDone, done_first, standing}
+use Rattle.dr_model.specs.Conversations.Standing.{AreDone, done_first, done_which, standing}
 use Rattle.dr_model.proofs.Growth.Apart.{apart_once}
-use Rattle.dr_model.proofs.Growth.Standing.{first_done, first_leave}
-use Rattle.dr_model.specs.Conversations.Views.{View, after_drop, inbox_of, outbox_of}
+use Rattle.dr_model.proofs.Growth.Standing.{first_done, first_leave, which_done, which_leave}
+use Rattle.dr_model.specs.Conversations.Views.{View, after_drop, entry_at, inbox_of, outbox_of}
 use Rattle.dr_model.specs.Machines.Events.{Event, cuts, does, seeds, shows_awaiting, shows_inbox, shows_state}
 use Rattle.dr_model.specs.Machines.Steps.{leaving, settled}
 use Rattle.dr_model.specs.Machines.Worlds.{World, dropping_in, made_at, run_of, step_of, taking_at, taking_given, taking_made, view_of, with_view}
@@ -95,6 +97,12 @@ lawful_drop k c side v (Oldest Packets n) lawful stand =
     (within n (length (outbox_of k c v)) v.dropped (length (posts_of k c side))
     (length-outbox_of k c v ∙ ap (λ s. length (posts_of k c s) - v.dropped) lawful.side_is)
     lawful.dropped_fits (enough_held n (length (outbox_of k c v)) stand))
+lawful_drop k c side v (OfId id) lawful stand =
+    let goes : Position → Bool = λ p. is_of id (entry_at c p) in
+    let stood = standing v.arrived v.done in
+    lawful_boxes k c side v (done_which goes v.arrived v.done) v.dropped lawful
+    (omega (arith, ap length (which_leave goes v.arrived v.done), length-filter_both goes (λ p. not (goes p)) (λ _. refl) stood)) (omega arith)
+    (which_done goes v.arrived v.done (apart_once v.arrived lawful.once) lawful.done) lawful.dropped_fits
 
 lawful_left : (k : Mechanism) (w : World) (side : Side) (which : Which) → IsLawfulWorld k w
     → IsLawfulWorld k (settled w (dropping_in k w side which)).next
@@ -112,7 +120,7 @@ lawful_next k w (seeds seed) lawful whole =
     record { conversation = lawful.conversation; first = lawful.first; second = lawful.second; given = whole }
 lawful_next k w (does side call) lawful whole =
     of_call k w side (λ made. IsLawfulWorld k made.next) (record {
-      text = λ text. lawful_says k w side text lawful;
+      content = λ content. lawful_says k w side content lawful;
       packet = λ at said. lawful_at k w side at lawful said;
       bytes = λ given. lawful_given k w side given lawful;
       drop = λ which. lawful_left k w side which lawful;

@@ -1,6 +1,6 @@
 -- Where a world begins.
 use Rattle.std.proofs.Common.{◌≡◌, ℕ, ◌≤◌, ◌&&◌, nat_le, true, List, [], length, refl, ap, arith}
-use Rattle.std.specs.Prelude.{is_some}
+use Rattle.std.specs.Prelude.{Some, is_some}
 use Rattle.std.proofs.lemmas.Bool.Decides.{nat_tests}
 use Rattle.std.proofs.lemmas.List.Elements.{All-nil}
 use Rattle.dr_base.specs.declared.limits.TheConstants.{OUTBOX_LIMIT, TEXT_LIMIT}
@@ -8,6 +8,7 @@ use Rattle.dr_base.specs.declared.position.Side.{Side}
 use Rattle.dr_base.specs.declared.position.Side.TheVariants.{First, Second}
 use Rattle.fs_aead.specs.Chain.{chain_of}
 use Rattle.kem_laws.specs.Mechanism.{Mechanism}
+use Rattle.session_model.specs.BoxKeys.{relay_keys_of}
 use Rattle.session_model.specs.Schedule.{agreement_seed}
 use Rattle.session_model.specs.States.{opening_state}
 use Rattle.session_model.specs.Turns.{turn_at}
@@ -86,7 +87,7 @@ lawful_opening k key formats some = record {
 -- what a client keeps there
 pub opening_client : (k : Mechanism) (key : List ℕ) (formats : Formats) (side : Side)
     → client_at k (opening_conversation key formats) (opening_view side)
-    ≡ record { state = opening_state k key side (side_format formats side); inbox = []; outbox = [] }
+    ≡ record { state = opening_state k key side (side_format formats side); inbox = []; outbox = []; relay = Some (relay_keys_of key) }
 unfolding missing_below missing_to reach turn_at chain_of positions_after
 opening_client k key formats First = refl
 opening_client k key formats Second = refl

@@ -1,12 +1,12 @@
 -- What the receipts of a conversation say.
-use Rattle.std.specs.Prelude.{List, None, Option, Some, length, option_map, true, ℕ, ⊤, ◌≡◌, ◌≤◌}
+use Rattle.std.specs.Prelude.{None, Option, Some, length, option_map, true, ℕ, ⊤, ◌≡◌, ◌≤◌}
 use Rattle.bodies.specs.Bodies.{Body}
 use Rattle.bodies.specs.Receipts.{Receipt, is_covered, receipt_up_to}
 use Rattle.bodies.specs.declared.format.Format.{Format}
 use Rattle.bodies.specs.declared.format.Format.TheVariants.{Padded, Plain, Receipts}
-use Rattle.boxes.specs.declared.kinds.TheConstants.{TEXT_KIND}
 use Rattle.dr_base.specs.Position.{position_at}
 use Rattle.dr_base.specs.declared.position.Position.{Position}
+use Rattle.session_model.specs.Contents.{Content}
 use Rattle.session_model.specs.States.{receiving_epoch}
 use Rattle.dr_model.specs.Conversations.Conversation.{Conversation, count_of, is_said}
 use Rattle.dr_model.specs.Conversations.Formats.{side_format}
@@ -26,10 +26,13 @@ sent_receipt Plain c v = None
 sent_receipt Padded c v = None
 sent_receipt Receipts c v = view_receipt c v
 
--- what it says of a text in a view
-abbrev pub body_in : Conversation → View → List ℕ → Body
-body_in c v text =
-    record { receipt = sent_receipt (side_format c.formats v.side) c v; kind = TEXT_KIND; content = text }
+-- what it says in a view: a content, with its receipt
+abbrev pub body_in : Conversation → View → Content → Body
+body_in c v content = record {
+  receipt = sent_receipt (side_format c.formats v.side) c v;
+  kind = content.kind;
+  content = content.bytes;
+}
 
 -- a position in an epoch that has begun, no further than what was said in it
 pub record IsSaidSoFar (c : Conversation) (p : Position) : Type 0 where

@@ -15,6 +15,10 @@ standing arrived done = filter (λ p. not (is_in done p)) arrived
 abbrev pub done_first : List Position → List Position → ℕ → List Position
 done_first arrived done n = done ++ take n (standing arrived done)
 
+-- those of them that pass a test are done too
+abbrev pub done_which : (Position → Bool) → List Position → List Position → List Position
+done_which goes arrived done = done ++ filter goes (standing arrived done)
+
 -- each position once
 abbrev pub AreApart : List Position → Type 0
 AreApart [] = ⊤

@@ -1,11 +1,13 @@
 -- What a session keeps in a view of a conversation.
-use Rattle.std.specs.Prelude.{if◌then◌else◌, map, nat_le, option_map, ℕ, ◌-◌}
+use Rattle.std.specs.Prelude.{None, Option, Some, if◌then◌else◌, map, nat_le, option_map, ℕ, ◌-◌}
 use Rattle.dr_base.specs.Position.{is_own}
 use Rattle.fs_aead.specs.Chain.{chain_of}
 use Rattle.kem_laws.specs.Mechanism.{Mechanism}
+use Rattle.session_model.specs.BoxKeys.{relay_keys_of}
 use Rattle.session_model.specs.Clients.{Client}
 use Rattle.session_model.specs.Schedule.{session_of}
 use Rattle.session_model.specs.States.{Own, Phase, Reception, State, in_own, in_peers, receiving_epoch}
+use Rattle.session_model.specs.declared.relay_keys.RelayKeys.{RelayKeys}
 use Rattle.dr_model.specs.Conversations.Conversation.{Conversation, count_of, previous_of}
 use Rattle.dr_model.specs.Conversations.Posts.{key_of, turn_of_epoch}
 use Rattle.dr_model.specs.Conversations.Views.{View, inbox_of, missing_of, outbox_of, reach_in}
@@ -54,6 +56,15 @@ state_of k c v = record {
   awaiting = v.awaiting;
 }
 
+-- the keys of the boxes at a relay, where the session has them
+abbrev pub relay_in : Conversation → View → Option RelayKeys
+relay_in c v = if v.keyed then Some (relay_keys_of c.key) else None
+
 -- what a client keeps in a view of a conversation
 abbrev pub client_at : Mechanism → Conversation → View → Client
-client_at k c v = record { state = state_of k c v; inbox = inbox_of c v; outbox = outbox_of k c v }
+client_at k c v = record {
+  state = state_of k c v;
+  inbox = inbox_of c v;
+  outbox = outbox_of k c v;
+  relay = relay_in c v;
+}

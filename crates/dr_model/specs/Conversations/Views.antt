@@ -1,7 +1,7 @@
 -- How far a side has come in a conversation.
 use Rattle.std.specs.List.{list_any}
-use Rattle.std.specs.Prelude.{Bool, List, [], count_by, drop, filter, if◌then◌else◌, map, max, nat_le, suc, zero, ℕ, ◌++◌, ◌+◌, ◌==◌, ◌∷◌}
-use Rattle.boxes.specs.Entries.{Entry, entry_with}
+use Rattle.std.specs.Prelude.{Bool, List, [], count_by, drop, filter, if◌then◌else◌, map, max, nat_le, suc, true, zero, ℕ, ◌++◌, ◌+◌, ◌==◌, ◌∷◌}
+use Rattle.boxes.specs.Entries.{Entry, entry_with, is_of}
 use Rattle.boxes.specs.Posts.{Post}
 use Rattle.dr_base.specs.Position.{is_at, is_own, position_at}
 use Rattle.dr_base.specs.declared.position.Position.{Position}
@@ -12,11 +12,11 @@ use Rattle.session_model.specs.Leaving.{held_in}
 use Rattle.session_model.specs.declared.answer.Items.{Items}
 use Rattle.session_model.specs.declared.answer.Items.TheVariants.{Packets, Texts}
 use Rattle.session_model.specs.declared.answer.Which.{Which}
-use Rattle.session_model.specs.declared.answer.Which.TheVariants.{Oldest}
+use Rattle.session_model.specs.declared.answer.Which.TheVariants.{OfId, Oldest}
 use Rattle.dr_model.specs.Conversations.Conversation.{Conversation, count_of, kind_at, receipt_at, text_at}
 use Rattle.dr_model.specs.Conversations.Indices.{missing_to, reach}
 use Rattle.dr_model.specs.Conversations.Posts.{posts_of}
-use Rattle.dr_model.specs.Conversations.Standing.{done_first, standing}
+use Rattle.dr_model.specs.Conversations.Standing.{done_first, done_which, standing}
 
 pub record View : Type 0 where
   pub side : Side
@@ -30,11 +30,20 @@ pub record View : Type 0 where
   pub dropped : ℕ
   -- its own texts that wait for a receipt, in the order that they were said
   pub awaiting : List Position
+  -- its session has the keys of its boxes at a relay, as each has that begins now
+  pub keyed : Bool
 
 -- where a conversation begins
 abbrev pub opening_view : Side → View
-opening_view side =
-    record { side = side; epoch = 0; arrived = []; done = []; dropped = 0; awaiting = [] }
+opening_view side = record {
+  side = side;
+  epoch = 0;
+  arrived = [];
+  done = [];
+  dropped = 0;
+  awaiting = [];
+  keyed = true;
+}
 
 -- the side has opened the packet of this position
 abbrev pub has_opened : View → Position → Bool
@@ -107,3 +116,4 @@ standing_of k c v items = held_in (inbox_of c v) (outbox_of k c v) items
 abbrev pub after_drop : Conversation → View → Which → View
 after_drop c v (Oldest Texts n) = record v { done = done_first v.arrived v.done n }
 after_drop c v (Oldest Packets n) = record v { dropped = v.dropped + n }
+after_drop c v (OfId id) = record v { done = done_which (λ p. is_of id (entry_at c p)) v.arrived v.done }

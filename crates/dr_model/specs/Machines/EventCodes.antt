@@ -5,11 +5,12 @@ use Rattle.std.specs.Coded.{Coded, code_by, coded_bool, coded_list, coded_option
 use Rattle.dr_base.specs.declared.position.Position.{Position}
 use Rattle.dr_base.specs.declared.position.Side.{Side}
 use Rattle.dr_base.specs.declared.position.Side.TheVariants.{First, Second}
+use Rattle.session_model.specs.Contents.{Content}
 use Rattle.session_model.specs.declared.answer.Amount.{Amount}
 use Rattle.session_model.specs.declared.answer.Amount.TheVariants.{All, Exactly}
 use Rattle.session_model.specs.declared.answer.Items.{Items}
 use Rattle.session_model.specs.declared.answer.Items.TheVariants.{Packets, Texts}
-use Rattle.dr_model.specs.Machines.Events.{Event, PacketSource, SideCall, cuts, does, drops, of_bytes, of_flip, of_number, of_position, says, seeds, shows_awaiting, shows_inbox, shows_state, takes}
+use Rattle.dr_model.specs.Machines.Events.{Event, PacketSource, SideCall, cuts, does, drops, drops_long, of_bytes, of_flip, of_number, of_position, says, seeds, shows_awaiting, shows_inbox, shows_state, takes}
 
 -- ---- a side, a position, an amount of items
 
@@ -62,7 +63,12 @@ same_amount (Exactly n) = refl
 abbrev pub amount_code : Coded Amount
 amount_code = code_by (Option ℕ) (coded_option coded_ℕ) number_in amount_by same_amount
 
--- ---- a packet that is taken, a call
+-- ---- what is said, a packet that is taken, a call
+
+abbrev pub content_code : Coded Content
+content_code =
+    code_by (ℕ × List ℕ) (coded× coded_ℕ (coded_list coded_ℕ)) (λ c. (c.kind, c.bytes))
+    (λ e. record { kind = e.0; bytes = e.1 }) (λ _. refl)
 
 abbrev StoredSource : Type 0
 StoredSource = Position ⊎ (ℕ ⊎ ((Position × ℕ) ⊎ List ℕ))
@@ -93,27 +99,30 @@ source_code =
     stored_source source_by same_source
 
 abbrev StoredCall : Type 0
-StoredCall = List ℕ ⊎ (PacketSource ⊎ (Items × Amount))
+StoredCall = Content ⊎ (PacketSource ⊎ ((Items × Amount) ⊎ ℕ))
 
 abbrev stored_call : SideCall → StoredCall
-stored_call (says text) = inl text
+stored_call (says content) = inl content
 stored_call (takes source) = inr (inl source)
-stored_call (drops items amount) = inr (inr (items, amount))
+stored_call (drops items amount) = inr (inr (inl (items, amount)))
+stored_call (drops_long id) = inr (inr (inr id))
 
 abbrev call_by : StoredCall → SideCall
-call_by (inl text) = says text
+call_by (inl content) = says content
 call_by (inr (inl source)) = takes source
-call_by (inr (inr dropped)) = drops dropped.0 dropped.1
+call_by (inr (inr (inl dropped))) = drops dropped.0 dropped.1
+call_by (inr (inr (inr id))) = drops_long id
 
 pub same_call : (call : SideCall) → call_by (stored_call call) ≡ call
-same_call (says text) = refl
+same_call (says content) = refl
 same_call (takes source) = refl
 same_call (drops items amount) = refl
+same_call (drops_long id) = refl
 
 abbrev pub call_code : Coded SideCall
 call_code =
     code_by StoredCall
-    (coded⊎ (coded_list coded_ℕ) (coded⊎ source_code (coded× items_code amount_code)))
+    (coded⊎ content_code (coded⊎ source_code (coded⊎ (coded× items_code amount_code) coded_ℕ)))
     stored_call call_by same_call
 
 -- ---- an event: whether each cut took effect, and the event that was cut off

@@ -2,6 +2,7 @@
 use Rattle.std.specs.Prelude.{Bool, List, ℕ}
 use Rattle.dr_base.specs.declared.position.Position.{Position}
 use Rattle.dr_base.specs.declared.position.Side.{Side}
+use Rattle.session_model.specs.Contents.{Content}
 use Rattle.session_model.specs.declared.answer.Amount.{Amount}
 use Rattle.session_model.specs.declared.answer.Items.{Items}
 
@@ -18,12 +19,14 @@ pub data PacketSource : Type 0 where
 
 -- what a side is called to do
 pub data SideCall : Type 0 where
-  -- it says a text
-  says : List ℕ → SideCall
+  -- it says a text, or a part of a long one
+  says : Content → SideCall
   -- it takes a packet
   takes : PacketSource → SideCall
   -- its oldest texts leave its inbox, or its oldest packets its outbox
   drops : Items → Amount → SideCall
+  -- the parts of the long text of an id leave its inbox
+  drops_long : ℕ → SideCall
 
 pub data Event : Type 0 where
   -- the next draw is this seed

@@ -5,9 +5,9 @@ use Rattle.kem_laws.specs.Mechanism.{Mechanism}
 use Rattle.session_model.specs.Clients.{Client}
 use Rattle.session_model.specs.declared.answer.Amount.TheVariants.{Exactly}
 use Rattle.session_model.specs.declared.answer.Which.{Which}
-use Rattle.session_model.specs.declared.answer.Which.TheVariants.{Oldest}
+use Rattle.session_model.specs.declared.answer.Which.TheVariants.{OfId, Oldest}
 use Rattle.dr_model.specs.Machines.Acts.{Act, dropping, saying, taking}
-use Rattle.dr_model.specs.Machines.Events.{Event, SideCall, does, drops, of_bytes, says, takes}
+use Rattle.dr_model.specs.Machines.Events.{Event, SideCall, does, drops, drops_long, of_bytes, says, takes}
 use Rattle.dr_model.specs.Machines.Steps.{Step}
 use Rattle.dr_model.specs.Machines.WorldSides.{kept_in}
 use Rattle.dr_model.specs.Machines.Worlds.{World, step_of}
@@ -15,10 +15,11 @@ use Rattle.dr_model.specs.Machines.Worlds.{World, step_of}
 -- the call by which items leave
 abbrev pub drop_call : Which → SideCall
 drop_call (Oldest items n) = drops items (Exactly n)
+drop_call (OfId id) = drops_long id
 
 -- the call that it is
 abbrev pub call_for : Act → SideCall
-call_for (saying text draw) = says text
+call_for (saying content draw) = says content
 call_for (taking bytes) = takes (of_bytes bytes)
 call_for (dropping which) = drop_call which
 
@@ -32,7 +33,7 @@ with_draw w None = w
 with_draw w (Some seed) = record w { draws = record w.draws { given = Some seed } }
 
 abbrev pub world_for : World → Act → World
-world_for w (saying text draw) = with_draw w draw
+world_for w (saying content draw) = with_draw w draw
 world_for w _ = w
 
 abbrev pub act_in : Mechanism → World → Side → Act → Step World

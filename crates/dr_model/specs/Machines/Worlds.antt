@@ -1,7 +1,7 @@
 -- The machine: what becomes of a conversation and of both sides' views, event by event.
 use Rattle.std.specs.Cmp.Lexicographic.{pointwise}
 use Rattle.std.specs.Prelude.{Bool, Err, List, None, Ok, Option, Result, Some, [], false, filter, find, if◌then◌else◌, is_none, length, nat_eq, nat_le, nat_lt, not, option_map, slice_get, true, ℕ, ◌+◌, ◌-◌, ◌∷◌}
-use Rattle.dr_base.specs.declared.limits.TheConstants.{TEXT_LIMIT, INDEX_LIMIT, LAST_EPOCH, KEPT_LIMIT, INBOX_LIMIT, OUTBOX_LIMIT}
+use Rattle.dr_base.specs.declared.limits.TheConstants.{INDEX_LIMIT, LAST_EPOCH, KEPT_LIMIT, INBOX_LIMIT, OUTBOX_LIMIT}
 use Rattle.boxes.specs.Entries.{Entry}
 use Rattle.boxes.specs.Posts.{Post}
 use Rattle.cka.specs.Agreement.{agreement_size}
@@ -13,23 +13,24 @@ use Rattle.kem_laws.specs.Mechanism.{Mechanism}
 use Rattle.packet.specs.Packet.{Fields}
 use Rattle.packet.specs.Reading.{read_packet}
 use Rattle.packet.specs.declared.fault.Malformed.{Malformed}
+use Rattle.session_model.specs.Contents.{Content, content_check, once_checked}
 use Rattle.session_model.specs.States.{State}
 use Rattle.session_model.specs.Ways.{Way, way_of}
 use Rattle.session_model.specs.Leaving.{drop_check}
 use Rattle.session_model.specs.declared.answer.Answer.TheVariants.{Awaiting, Inbox, Opened, Said, Seeded, State as InNumbers}
 use Rattle.session_model.specs.declared.answer.Items.{Items}
 use Rattle.session_model.specs.declared.answer.Refusal.{Refusal}
-use Rattle.session_model.specs.declared.answer.Refusal.TheVariants.{BadTag, EpochFull, InboxFull, LastEpoch, Malformed as Unreadable, NoPair, OutboxFull, OwnPacket, SkipLimit, Spent, TextTooLong}
+use Rattle.session_model.specs.declared.answer.Refusal.TheVariants.{BadTag, EpochFull, InboxFull, LastEpoch, Malformed as Unreadable, NoPair, OutboxFull, OwnPacket, SkipLimit, Spent}
 use Rattle.session_model.specs.declared.answer.Which.{Which}
-use Rattle.session_model.specs.declared.answer.Which.TheVariants.{Oldest}
-use Rattle.dr_model.specs.Conversations.Formats.{Formats}
+use Rattle.session_model.specs.declared.answer.Which.TheVariants.{OfId, Oldest}
+use Rattle.dr_model.specs.Conversations.Formats.{Formats, side_format}
 use Rattle.dr_model.specs.Conversations.Conversation.{Conversation, count_of, is_said, next_position, opening_conversation, positions, with_text, with_turn}
 use Rattle.dr_model.specs.Conversations.Posts.{posts}
 use Rattle.dr_model.specs.Conversations.Receipts.{body_in}
 use Rattle.dr_model.specs.Conversations.ViewStates.{state_of}
 use Rattle.dr_model.specs.Conversations.Views.{View, after_drop, after_opening, after_text, after_turn, has_opened, inbox_of, missing_of, opening_view, outbox_of, standing_of}
 use Rattle.dr_model.specs.Machines.Draws.{Draws, after_draw, next_seed}
-use Rattle.dr_model.specs.Machines.Events.{Event, PacketSource, SideCall, cuts, does, drops, of_bytes, of_flip, of_number, of_position, says, seeds, shows_awaiting, shows_inbox, shows_state, takes}
+use Rattle.dr_model.specs.Machines.Events.{Event, PacketSource, SideCall, cuts, does, drops, drops_long, of_bytes, of_flip, of_number, of_position, says, seeds, shows_awaiting, shows_inbox, shows_state, takes}
 use Rattle.dr_model.specs.Machines.Network.{flipped_at}
 use Rattle.dr_model.specs.Machines.Steps.{Step, amount_of, cut_step, leaving, nothing, places, settled, step, texts}
 
@@ -63,39 +64,43 @@ inbox_in w side = inbox_of w.conversation (view_of w side)
 abbrev pub outbox_in : Mechanism → World → Side → List Post
 outbox_in k w side = outbox_of k w.conversation (view_of w side)
 
--- whether a side may say a text of this length, and then whether that needs a seed
-abbrev pub may_say : Mechanism → World → Side → ℕ → Result Bool Refusal
-may_say k w side len =
+-- whether a side may say one more, and then whether that needs a seed
+abbrev pub may_speak : Mechanism → World → Side → Result Bool Refusal
+may_speak k w side =
     let v = view_of w side in
-    if nat_lt TEXT_LIMIT len then Err (TextTooLong len)
-    else (if nat_le OUTBOX_LIMIT (length (outbox_in k w side)) then Err OutboxFull
+    if nat_le OUTBOX_LIMIT (length (outbox_in k w side)) then Err OutboxFull
     else (if is_own side v.epoch then (if nat_le INDEX_LIMIT (count_of w.conversation v.epoch) then Err EpochFull else Ok false)
-    else (if nat_le LAST_EPOCH v.epoch then Err LastEpoch else Ok true)))
+    else (if nat_le LAST_EPOCH v.epoch then Err LastEpoch else Ok true))
 
--- the next text of the side's epoch
-abbrev pub said_here : World → Side → List ℕ → Step World
-said_here w side text =
+-- whether it may say a content, and then whether that needs a seed
+abbrev pub may_say : Mechanism → World → Side → Content → Result Bool Refusal
+may_say k w side content =
+    once_checked (content_check (side_format w.conversation.formats (view_of w side).side) content) (may_speak k w side)
+
+-- the next one of the side's epoch
+abbrev pub said_here : World → Side → Content → Step World
+said_here w side content =
     let c = w.conversation in
     let v = view_of w side in
     let p = next_position c.said v.epoch in
     step (Said p)
-    (with_view (record w { conversation = with_text c v.epoch (body_in c v text) }) side (after_text v p))
+    (with_view (record w { conversation = with_text c v.epoch (body_in c v content) }) side (after_text v p))
 
--- the first text of the side's next epoch
-abbrev pub said_next : World → Side → List ℕ → List ℕ → Step World
-said_next w side seed text =
+-- the first one of the side's next epoch
+abbrev pub said_next : World → Side → List ℕ → Content → Step World
+said_next w side seed content =
     let c = w.conversation in
     let v = view_of w side in
     step (Said (position_at (v.epoch + 1) 1))
-    (with_view (record w { conversation = with_turn c seed (v.epoch + 1) (body_in c v text) }) side (after_turn v))
+    (with_view (record w { conversation = with_turn c seed (v.epoch + 1) (body_in c v content) }) side (after_turn v))
 
-abbrev pub saying_in : Mechanism → World → Side → List ℕ → Result Bool Refusal → Step World
-saying_in k w side text (Err refusal) = settled w (Err refusal)
-saying_in k w side text (Ok false) = said_here w side text
-saying_in k w side text (Ok true) =
+abbrev pub saying_in : Mechanism → World → Side → Content → Result Bool Refusal → Step World
+saying_in k w side content (Err refusal) = settled w (Err refusal)
+saying_in k w side content (Ok false) = said_here w side content
+saying_in k w side content (Ok true) =
     let seed = next_seed w.conversation.key w.draws in
     let drawn = record w { draws = after_draw w.draws } in
-    if is_none (k.meaning.pair_of seed) then settled drawn (Err NoPair) else said_next drawn side seed text
+    if is_none (k.meaning.pair_of seed) then settled drawn (Err NoPair) else said_next drawn side seed content
 
 -- a side takes the packet of a position of the conversation
 abbrev pub taking_in : World → Side → Position → Result (Step World) Refusal
@@ -173,10 +178,11 @@ dropping_in k w side which =
 
 -- what becomes of a call of a side
 abbrev pub called_in : Mechanism → World → Side → SideCall → Step World
-called_in k w side (says text) = saying_in k w side text (may_say k w side (length text))
+called_in k w side (says content) = saying_in k w side content (may_say k w side content)
 called_in k w side (takes source) = taking_of k w side source
 called_in k w side (drops items amount) =
     settled w (dropping_in k w side (Oldest items (amount_of amount (standing_in k w side items))))
+called_in k w side (drops_long id) = settled w (dropping_in k w side (OfId id))
 
 -- what becomes of what happens
 abbrev pub step_of : Mechanism → World → Event → Step World

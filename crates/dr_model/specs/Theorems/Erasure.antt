@@ -1,4 +1,5 @@
--- What a side holds doesn't give the key of a text that it has opened or said.
+-- What a side holds doesn't give the key of a text that it has opened or said. The keys of its boxes at a relay are no
+-- part of this: no message key follows from them by any step of the key schedule.
 use Rattle.std.specs.Prelude.{List, true, ℕ, ◌≡◌}
 use Rattle.dr_base.specs.Position.{is_own}
 use Rattle.dr_base.specs.declared.position.Position.{Position}

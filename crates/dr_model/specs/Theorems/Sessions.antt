@@ -1,6 +1,6 @@
 -- The ratchet end to end: what a session that stands in a view of a conversation answers, and what it keeps then.
 use Rattle.std.specs.Prelude.{Bool, Err, List, None, Ok, Result, Some, false, if◌then◌else◌, is_some, length, nat_le, nat_lt, true, ℕ, ◌+◌, ◌≡◌}
-use Rattle.dr_base.specs.declared.limits.TheConstants.{TEXT_LIMIT, INDEX_LIMIT, LAST_EPOCH, KEPT_LIMIT}
+use Rattle.dr_base.specs.declared.limits.TheConstants.{INDEX_LIMIT, LAST_EPOCH, KEPT_LIMIT}
 use Rattle.bodies.specs.Bodies.{Body}
 use Rattle.cka.specs.Agreement.{agreement_size}
 use Rattle.dr_base.specs.Position.{is_own, peer_of}
@@ -8,11 +8,12 @@ use Rattle.dr_base.specs.declared.position.Position.{Position}
 use Rattle.dr_base.specs.declared.position.Side.{Side}
 use Rattle.kem_laws.specs.Mechanism.{Mechanism}
 use Rattle.packet.specs.Reading.{read_packet}
+use Rattle.session_model.specs.Contents.{Content, content_check, once_checked}
 use Rattle.session_model.specs.Saying.{SendDraft, draft_send, send_check}
 use Rattle.session_model.specs.States.{opening_state}
 use Rattle.session_model.specs.Taking.{ReceiveDraft, draft_receive}
 use Rattle.session_model.specs.declared.answer.Refusal.{Refusal}
-use Rattle.session_model.specs.declared.answer.Refusal.TheVariants.{EpochFull, LastEpoch, OwnPacket, SkipLimit, Spent, TextTooLong}
+use Rattle.session_model.specs.declared.answer.Refusal.TheVariants.{EpochFull, LastEpoch, OwnPacket, SkipLimit, Spent}
 use Rattle.dr_model.specs.Conversations.Conversation.{Conversation, count_of, is_said, kind_at, next_position, opening_conversation, text_at, with_text, with_turn}
 use Rattle.dr_model.specs.Conversations.Formats.{Formats, side_format}
 use Rattle.dr_model.specs.Conversations.Lawful.{IsLawfulConversation, IsLawfulView}
@@ -36,12 +37,12 @@ received_in k c v p =
       next = state_of k c opened;
     })))
 
--- whether a session may draft a text of this length, and then whether that needs a seed: as the machine says, but for the
--- outbox, which is its client's
-abbrev pub checked_in : Conversation → View → ℕ → Result Bool Refusal
-checked_in c v len =
-    if nat_lt TEXT_LIMIT len then Err (TextTooLong len)
-    else (if is_own v.side v.epoch then (if nat_le INDEX_LIMIT (count_of c v.epoch) then Err EpochFull else Ok false)
+-- whether a session may draft a content, and then whether that needs a seed: as the machine says, but for the outbox,
+-- which is its client's
+abbrev pub checked_in : Conversation → View → Content → Result Bool Refusal
+checked_in c v content =
+    once_checked (content_check (side_format c.formats v.side) content)
+    (if is_own v.side v.epoch then (if nat_le INDEX_LIMIT (count_of c v.epoch) then Err EpochFull else Ok false)
     else (if nat_le LAST_EPOCH v.epoch then Err LastEpoch else Ok true))
 
 -- a draft of the packet of a position, after which the session stands in this view
@@ -64,20 +65,21 @@ pub record SessionsAgree (k : Mechanism) : Type 0 where
       → read_packet (agreement_size k) (post_at k c p).packet ≡ Ok (post_fields k c p)
   pub receives : (c : Conversation) (side : Side) (v : View) (p : Position) → StandsIn k c side v → is_said c p ≡ true
       → draft_receive k (state_of k c v) (post_fields k c p) ≡ received_in k c v p
-  -- a text is checked, and drafted: in an epoch of the side's own, or with a seed that has a pair in the next epoch
-  pub checks : (c : Conversation) (v : View) (len : ℕ) → send_check (state_of k c v) len ≡ checked_in c v len
-  pub sends : (c : Conversation) (side : Side) (v : View) (text seed : List ℕ) → StandsIn k c side v
+  -- a content is checked, and drafted: in an epoch of the side's own, or with a seed that has a pair in the next epoch
+  pub checks : (c : Conversation) (v : View) (content : Content)
+      → send_check (state_of k c v) content ≡ checked_in c v content
+  pub sends : (c : Conversation) (side : Side) (v : View) (content : Content) (seed : List ℕ) → StandsIn k c side v
       → is_own side v.epoch ≡ true
-      → draft_send k (state_of k c v) text seed
-      ≡ Some (drafted_in k (with_text c v.epoch (body_in c v text)) (after_text v (next_position c.said v.epoch))
+      → draft_send k (state_of k c v) content seed
+      ≡ Some (drafted_in k (with_text c v.epoch (body_in c v content)) (after_text v (next_position c.said v.epoch))
       (next_position c.said v.epoch))
-  pub turns : (c : Conversation) (side : Side) (v : View) (text seed : List ℕ) → StandsIn k c side v
+  pub turns : (c : Conversation) (side : Side) (v : View) (content : Content) (seed : List ℕ) → StandsIn k c side v
       → is_own side v.epoch ≡ false → is_some (k.meaning.pair_of seed) ≡ true
-      → draft_send k (state_of k c v) text seed
-      ≡ Some (drafted_in k (with_turn c seed (v.epoch + 1) (body_in c v text)) (after_turn v)
+      → draft_send k (state_of k c v) content seed
+      ≡ Some (drafted_in k (with_turn c seed (v.epoch + 1) (body_in c v content)) (after_turn v)
       (next_position c.said (v.epoch + 1)))
-  pub no_pair : (c : Conversation) (side : Side) (v : View) (text seed : List ℕ) → StandsIn k c side v
-      → is_own side v.epoch ≡ false → k.meaning.pair_of seed ≡ None → draft_send k (state_of k c v) text seed ≡ None
+  pub no_pair : (c : Conversation) (side : Side) (v : View) (content : Content) (seed : List ℕ) → StandsIn k c side v
+      → is_own side v.epoch ≡ false → k.meaning.pair_of seed ≡ None → draft_send k (state_of k c v) content seed ≡ None
   -- the other side, in its view u, keeps its state
   pub stays : (c : Conversation) (side : Side) (v u : View) (body : Body) → StandsIn k c side v
       → StandsIn k c (peer_of side) u → is_own side v.epoch ≡ true

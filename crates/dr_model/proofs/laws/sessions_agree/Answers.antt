@@ -17,14 +17,14 @@ returns args k law = record {
   opening = λ key formats side. ap (λ (client : Client). client.state) (sym (opening_client k key formats side));
   reads = λ c p lawful said. read-post k c p law lawful (is_place k c p lawful said);
   receives = λ c side v p at said. received k c side v p law at.conversation at.view said;
-  checks = λ c v len. session_check k c v len;
-  sends = λ c side v text seed at own.
-      draft_send-own k c v text seed (own_in k c side v v.epoch true at.view own) at.view.reached;
-  turns = λ c side v text seed at peers pairs.
-      draft_send-turn k c v text seed pairs (own_in k c side v v.epoch false at.view peers) (at_last k c side v at.view peers)
+  checks = λ c v content. session_check k c v content;
+  sends = λ c side v content seed at own.
+      draft_send-own k c v content seed (own_in k c side v v.epoch true at.view own) at.view.reached;
+  turns = λ c side v content seed at peers pairs.
+      draft_send-turn k c v content seed pairs (own_in k c side v v.epoch false at.view peers) (at_last k c side v at.view peers)
       at.conversation.begun;
-  no_pair = λ c side v text seed at peers none.
-      draft_send-none k c v text seed none (own_in k c side v v.epoch false at.view peers);
+  no_pair = λ c side v content seed at peers none.
+      draft_send-none k c v content seed none (own_in k c side v v.epoch false at.view peers);
   stays = λ c side v u text at other own. state_stays k c side v u text at.view other.view own;
   stays_turned = λ c side v u text seed at other peers. state_stays_turned k c side v u text seed at.view other.view peers;
   packets_stay = λ c side v text p at said.

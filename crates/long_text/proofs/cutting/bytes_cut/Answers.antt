@@ -1,5 +1,5 @@
 use Rattle.std.proofs.Common.{ℕ, ◌*◌, ◌-◌, take, drop, ◌∙◌, ap}
-use Rattle.long_text.specs.declared.limits.TheConstants.{PART_LIMIT}
+use Rattle.boxes.specs.declared.limits.TheConstants.{PART_LIMIT}
 use Rattle.long_text.proofs.Cuts.{cut_short}
 use Rattle.long_text.proofs.cutting.bytes_cut.Goals as goal
 

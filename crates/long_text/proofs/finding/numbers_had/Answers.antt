@@ -1,7 +1,7 @@
 use Rattle.std.proofs.Common.{◌≡◌, ◌+◌, true, false, length, sym, ◌∙◌, ap, arith}
 use Rattle.std.specs.Prelude.{filter, find, is_some}
 use Rattle.std.specs.List.{list_any, range_with_len}
-use Rattle.long_text.specs.declared.limits.TheConstants.{PARTS_LIMIT}
+use Rattle.boxes.specs.declared.limits.TheConstants.{PARTS_LIMIT}
 use Rattle.long_text.specs.Longs.{has_number}
 use Rattle.long_text.specs.Pieces.{pieces}
 use Rattle.long_text.proofs.Wholes.{had_next}

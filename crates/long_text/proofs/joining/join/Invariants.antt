@@ -1,7 +1,7 @@
 -- the bytes under the first numbers were put
 use Rattle.std.proofs.Common.{◌≤◌, ◌*◌}
 use Rattle.dr_base.specs.Buffer.{Puts}
-use Rattle.long_text.specs.declared.limits.TheConstants.{PART_LIMIT}
+use Rattle.boxes.specs.declared.limits.TheConstants.{PART_LIMIT}
 use Rattle.long_text.specs.Longs.{joined}
 use Rattle.long_text.specs.Pieces.{pieces}
 use Rattle.long_text.proofs.joining.join.Given as goal

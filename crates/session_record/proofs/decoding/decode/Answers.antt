@@ -5,21 +5,21 @@ use Rattle.session_record.specs.Seen.{groups_read}
 use Rattle.session_record.proofs.Places.{fault-place}
 use Rattle.session_record.proofs.decoding.decode.Goals as goal
 
-pub part_of-requires : goal.part_of-requires
-part_of-requires g c =
+pub part_of-part-requires : goal.part_of-part-requires
+part_of-part-requires g c =
     let bytes = are_bytes c.args.text.now (λ i. omega (arith, c.type_inv.text i)) in
-    let saved = saved_of (groups_read c.in-Ok.heading c.in-Ok.keys c.read_whole.new.kept.items c.in-Ok.awaiting c.read_whole.new.inbox c.read_whole.new.outbox) in
+    let saved = saved_of (groups_read c.in-Ok.heading c.in-Ok.keys c.read_whole.new.kept.items (c.in-Ok.awaiting, c.in-Ok.relay) c.read_whole.new.inbox c.read_whole.new.outbox) in
     rw c.as_slice.ensures.value ((c.version_law.ensures g.K.Kem.mechanism).only c.args.text.now saved bytes c.in-Ok.ensures).1.client.state
 
 pub returns-in-Ok-clause-exact : goal.returns-in-Ok-clause-exact
 unfolding record_read
-returns-in-Ok-clause-exact g c = rw (c.part_of.ensures, c.as_slice.ensures.value) (ap without_version c.in-Ok.ensures)
+returns-in-Ok-clause-exact g c = rw (c.part_of-part.ensures, c.as_slice.ensures.value) (ap without_version c.in-Ok.ensures)
 
 pub returns-in-Ok-clause-lawful : goal.returns-in-Ok-clause-lawful
 returns-in-Ok-clause-lawful g c =
     let bytes = are_bytes c.args.text.now (λ i. omega (arith, c.type_inv.text i)) in
-    let saved = saved_of (groups_read c.in-Ok.heading c.in-Ok.keys c.read_whole.new.kept.items c.in-Ok.awaiting c.read_whole.new.inbox c.read_whole.new.outbox) in
-    rw (c.part_of.ensures, c.as_slice.ensures.value) ((c.version_law.ensures g.K.Kem.mechanism).only c.args.text.now saved bytes c.in-Ok.ensures).1.client
+    let saved = saved_of (groups_read c.in-Ok.heading c.in-Ok.keys c.read_whole.new.kept.items (c.in-Ok.awaiting, c.in-Ok.relay) c.read_whole.new.inbox c.read_whole.new.outbox) in
+    rw (c.part_of-part.ensures, c.as_slice.ensures.value) ((c.version_law.ensures g.K.Kem.mechanism).only c.args.text.now saved bytes c.in-Ok.ensures).1.client
 
 pub returns-in-Err-clause-exact : goal.returns-in-Err-clause-exact
 unfolding record_read

@@ -1,4 +1,5 @@
 use Rattle.std.proofs.Common.{◌≡◌, ◌≤◌, List, ℕ, length, sym, ◌∙◌, arith, inl, inr}
+use Rattle.std.specs.Prelude.{option_copied}
 use Rattle.grammar.specs.Printer.{HasRoom}
 use Rattle.dr_base.proofs.Putting.{then_puts}
 use Rattle.session_record.specs.declared.limits.TheConstants.{RECORD_LIMIT}
@@ -14,25 +15,25 @@ holds text room (inr any) short = omega (arith, any, short)
 
 pub put_heading-at_keys-requires : goal.put_heading-at_keys-requires
 put_heading-at_keys-requires g c =
-    let client = changed g.K.Kem.mechanism (client_of c.args.part.now c.args.inbox.now c.args.outbox.now) c.args.change.now in
+    let client = changed g.K.Kem.mechanism (client_of c.args.part.now c.args.inbox.now c.args.outbox.now (option_copied c.args.keys)) c.args.change.now in
     let room = holds (record_text client) (length c.args.out.now) c.requires.room c.is_short.ensures in
     omega (arith, room, text_size client)
 
 pub put_keys-at_inbox-requires : goal.put_keys-at_inbox-requires
 put_keys-at_inbox-requires g c =
-    let client = changed g.K.Kem.mechanism (client_of c.args.part.now c.args.inbox.now c.args.outbox.now) c.args.change.now in
+    let client = changed g.K.Kem.mechanism (client_of c.args.part.now c.args.inbox.now c.args.outbox.now (option_copied c.args.keys)) c.args.change.now in
     let room = holds (record_text client) (length c.args.out.now) c.requires.room c.is_short.ensures in
     omega (arith, room, text_size client, c.put_heading-at_keys.ensures.next_is)
 
 pub put_inbox-at_outbox-requires-clause-room : goal.put_inbox-at_outbox-requires-clause-room
 put_inbox-at_outbox-requires-clause-room g c =
-    let client = changed g.K.Kem.mechanism (client_of c.args.part.now c.args.inbox.now c.args.outbox.now) c.args.change.now in
+    let client = changed g.K.Kem.mechanism (client_of c.args.part.now c.args.inbox.now c.args.outbox.now (option_copied c.args.keys)) c.args.change.now in
     let room = holds (record_text client) (length c.args.out.now) c.requires.room c.is_short.ensures in
     omega (arith, room, text_size client, c.put_heading-at_keys.ensures.next_is, c.put_keys-at_inbox.ensures.next_is)
 
 pub put_outbox-at_awaiting-requires-clause-room : goal.put_outbox-at_awaiting-requires-clause-room
 put_outbox-at_awaiting-requires-clause-room g c =
-    let client = changed g.K.Kem.mechanism (client_of c.args.part.now c.args.inbox.now c.args.outbox.now) c.args.change.now in
+    let client = changed g.K.Kem.mechanism (client_of c.args.part.now c.args.inbox.now c.args.outbox.now (option_copied c.args.keys)) c.args.change.now in
     let room = holds (record_text client) (length c.args.out.now) c.requires.room c.is_short.ensures in
     omega (
       arith,
@@ -43,9 +44,9 @@ put_outbox-at_awaiting-requires-clause-room g c =
       c.put_inbox-at_outbox.ensures.next_is,
     )
 
-pub put_awaiting-requires : goal.put_awaiting-requires
-put_awaiting-requires g c =
-    let client = changed g.K.Kem.mechanism (client_of c.args.part.now c.args.inbox.now c.args.outbox.now) c.args.change.now in
+pub put_awaiting-at_relay-requires : goal.put_awaiting-at_relay-requires
+put_awaiting-at_relay-requires g c =
+    let client = changed g.K.Kem.mechanism (client_of c.args.part.now c.args.inbox.now c.args.outbox.now (option_copied c.args.keys)) c.args.change.now in
     let room = holds (record_text client) (length c.args.out.now) c.requires.room c.is_short.ensures in
     omega (
       arith,
@@ -55,12 +56,27 @@ put_awaiting-requires g c =
       c.put_keys-at_inbox.ensures.next_is,
       c.put_inbox-at_outbox.ensures.next_is,
       c.put_outbox-at_awaiting.ensures.next_is,
+    )
+
+pub put_relay-requires : goal.put_relay-requires
+put_relay-requires g c =
+    let client = changed g.K.Kem.mechanism (client_of c.args.part.now c.args.inbox.now c.args.outbox.now (option_copied c.args.keys)) c.args.change.now in
+    let room = holds (record_text client) (length c.args.out.now) c.requires.room c.is_short.ensures in
+    omega (
+      arith,
+      room,
+      text_size client,
+      c.put_heading-at_keys.ensures.next_is,
+      c.put_keys-at_inbox.ensures.next_is,
+      c.put_inbox-at_outbox.ensures.next_is,
+      c.put_outbox-at_awaiting.ensures.next_is,
+      c.put_awaiting-at_relay.ensures.next_is,
     )
 
 pub returns-clause-len : goal.returns-clause-len
 returns-clause-len g c =
-    let client = changed g.K.Kem.mechanism (client_of c.args.part.now c.args.inbox.now c.args.outbox.now) c.args.change.now in
-    let l : c.put_awaiting.result ≡ length (record_text client) =
+    let client = changed g.K.Kem.mechanism (client_of c.args.part.now c.args.inbox.now c.args.outbox.now (option_copied c.args.keys)) c.args.change.now in
+    let l : c.put_relay.result ≡ length (record_text client) =
     omega (
       arith,
       text_size client,
@@ -68,25 +84,26 @@ returns-clause-len g c =
       c.put_keys-at_inbox.ensures.next_is,
       c.put_inbox-at_outbox.ensures.next_is,
       c.put_outbox-at_awaiting.ensures.next_is,
-      c.put_awaiting.ensures.next_is,
+      c.put_awaiting-at_relay.ensures.next_is,
+      c.put_relay.ensures.next_is,
     ) in
     l
 
 pub returns-clause-written : goal.returns-clause-written
 returns-clause-written g c =
-    let client = changed g.K.Kem.mechanism (client_of c.args.part.now c.args.inbox.now c.args.outbox.now) c.args.change.now in
+    let client = changed g.K.Kem.mechanism (client_of c.args.part.now c.args.inbox.now c.args.outbox.now (option_copied c.args.keys)) c.args.change.now in
     let boxes = then_puts c.put_inbox-at_outbox.ensures c.put_outbox-at_awaiting.ensures in
-    let all = then_puts c.put_heading-at_keys.ensures (then_puts c.put_keys-at_inbox.ensures (then_puts boxes c.put_awaiting.ensures)) in
+    let all = then_puts c.put_heading-at_keys.ensures (then_puts c.put_keys-at_inbox.ensures (then_puts boxes (then_puts c.put_awaiting-at_relay.ensures c.put_relay.ensures))) in
     all.front ∙ sym (text_pieces client)
 
 pub returns-clause-rest : goal.returns-clause-rest
 returns-clause-rest g c =
     let boxes = then_puts c.put_inbox-at_outbox.ensures c.put_outbox-at_awaiting.ensures in
-    (then_puts c.put_heading-at_keys.ensures (then_puts c.put_keys-at_inbox.ensures (then_puts boxes c.put_awaiting.ensures))).rest
+    (then_puts c.put_heading-at_keys.ensures (then_puts c.put_keys-at_inbox.ensures (then_puts boxes (then_puts c.put_awaiting-at_relay.ensures c.put_relay.ensures)))).rest
 
 pub returns-clause-limit : goal.returns-clause-limit
 returns-clause-limit g c =
-    let client = changed g.K.Kem.mechanism (client_of c.args.part.now c.args.inbox.now c.args.outbox.now) c.args.change.now in
+    let client = changed g.K.Kem.mechanism (client_of c.args.part.now c.args.inbox.now c.args.outbox.now (option_copied c.args.keys)) c.args.change.now in
     omega (
       arith,
       c.is_short.ensures,
@@ -95,5 +112,6 @@ returns-clause-limit g c =
       c.put_keys-at_inbox.ensures.next_is,
       c.put_inbox-at_outbox.ensures.next_is,
       c.put_outbox-at_awaiting.ensures.next_is,
-      c.put_awaiting.ensures.next_is,
+      c.put_awaiting-at_relay.ensures.next_is,
+      c.put_relay.ensures.next_is,
     )

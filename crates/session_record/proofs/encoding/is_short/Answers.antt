@@ -1,5 +1,5 @@
 use Rattle.std.proofs.Common.{◌≡◌, List, length, subst, ◌∙◌, ap, arith}
-use Rattle.std.specs.Prelude.{All}
+use Rattle.std.specs.Prelude.{All, option_copied}
 use Rattle.dr_base.specs.declared.key.Kept.{Kept}
 use Rattle.session_model.specs.LawfulStates.{IsLawfulState}
 use Rattle.session_model.specs.States.{State}
@@ -17,5 +17,5 @@ returns g c =
     let long = subst (λ (keys : List Kept). All (λ (one : Kept). length one.key.bytes ≡ 32) keys) same c.are_long.ensures in
     let inbox : IsRoomyInbox c.args.inbox.now = record { few = omega (arith, c.len-texts.ensures.value, c.len-texts.ensures.limit); short = c.len-texts.ensures.room } in
     let outbox : IsRoomyOutbox c.args.outbox.now = record { few = omega (arith, c.len-packets.ensures.value, c.len-packets.ensures.limit); short = c.len-packets.ensures.room } in
-    text-fits k (changed k (client_of c.args.part.now c.args.inbox.now c.args.outbox.now) change) c.laws.ensures.law lawful long
-    (roomy-inbox c.args.inbox.now change inbox c.requires.inbox) (roomy-outbox k c.args.outbox.now change outbox c.requires.outbox)
+    text-fits k (changed k (client_of c.args.part.now c.args.inbox.now c.args.outbox.now (option_copied c.args.keys)) change) c.laws.ensures.law lawful long
+    (roomy-inbox c.args.inbox.now change inbox c.requires.inbox) (roomy-outbox k c.args.outbox.now change outbox c.requires.outbox) c.have_length.ensures

@@ -2,8 +2,9 @@
 
 ghost use Rattle.std.specs.Prelude.{◌≡◌, ◌+◌, ◌≤◌, true, length, IfSome};
 ghost use Rattle.dr_base.specs.Buffer.{Puts};
-ghost use Rattle.long_text.specs.Parts.{IsPart, is_part, part_of, part_read, part_text};
+ghost use Rattle.boxes.specs.Parts.{IsPart, is_part, is_part_under, part_of, part_read, part_text};
 
+use crate::kinds::PART_KIND;
 use crate::limits::{PART_HEAD, PARTS_LIMIT};
 use dr_base::{TEXT_LIMIT, put, put_u32, read_u32};
 use std::marker::Model;
@@ -21,7 +22,7 @@ pub struct Part<'a> {
 }
 
 impl<'a> Model for Part<'a> {
-    ghost use Rattle.long_text.specs.Parts.{Part as Meant};
+    ghost use Rattle.boxes.specs.Parts.{Part as Meant};
 
     ghost Value = { Meant };
 
@@ -35,7 +36,7 @@ impl<'a> Model for Part<'a> {
 
 /// Whether bytes are those of a lawful part.
 #[tactic(auto, unfolding(crate::specs::Parts::is_part))]
-fn is_part(bytes: &[u8]) -> bool
+pub fn is_part(bytes: &[u8]) -> bool
     ensures { result ≡ is_part bytes.now }
 {
     if bytes.len() < PART_HEAD || bytes.len() > TEXT_LIMIT {
@@ -78,4 +79,17 @@ pub fn put_part(out: &mut [u8], at: usize, part: &Part<'_>) -> usize
     let at_number = put_u32(out, at, part.id);
     let at_bytes = put(out, at_number, &[part.number, part.count]);
     put(out, at_bytes, part.bytes)
+}
+
+/// Whether bytes of a kind are a part of the long text of an id.
+pub(crate) fn is_part_under(id: u32, kind: u8, bytes: &[u8]) -> bool
+    ensures { result ≡ is_part_under id kind bytes.now }
+{
+    if kind != PART_KIND {
+        return false;
+    }
+    match parse_part(bytes) {
+        Some(part) => part.id == id,
+        None => false,
+    }
 }

@@ -1,8 +1,9 @@
--- A part of a long text, and its bytes.
-use Rattle.std.specs.Prelude.{ℕ, ◌≤◌, ◌&&◌, Bool, nat_le, List, ◌∷◌, ◌++◌, length, take, drop, slice_index_or, Option, Some, None, if◌then◌else◌}
+-- A part of a long text, and its bytes; what a content of a kind is.
+use Rattle.std.specs.Prelude.{ℕ, ◌≤◌, ◌==◌, ◌&&◌, Bool, nat_le, List, ◌∷◌, ◌++◌, length, take, drop, slice_index_or, Option, Some, None, if◌then◌else◌}
 use Rattle.std.specs.Int.{w32, to_be_bytes, from_be_bytes}
 use Rattle.dr_base.specs.declared.limits.TheConstants.{TEXT_LIMIT}
-use Rattle.long_text.specs.declared.limits.TheConstants.{PARTS_LIMIT, PART_HEAD, PART_LIMIT}
+use Rattle.boxes.specs.declared.kinds.TheConstants.{PART_KIND, TEXT_KIND}
+use Rattle.boxes.specs.declared.limits.TheConstants.{PARTS_LIMIT, PART_HEAD, PART_LIMIT}
 
 -- the id of the long text, the part's number from 1, how many parts there are, and its bytes
 pub record Part : Type 0 where
@@ -43,3 +44,16 @@ part_of text = record {
 -- the part that bytes are read as
 abbrev pub part_read : List ℕ → Option Part
 part_read text = if is_part text then Some (part_of text) else None
+
+-- ---- the contents of kinds
+
+-- bytes are a content of a kind: a text, or a part of a long one
+abbrev pub is_content : ℕ → List ℕ → Bool
+is_content kind bytes =
+    if kind == TEXT_KIND then nat_le (length bytes) TEXT_LIMIT
+    else ((kind == PART_KIND) && is_part bytes)
+
+-- bytes of a kind are a part of the long text of an id
+abbrev pub is_part_under : ℕ → ℕ → List ℕ → Bool
+is_part_under id kind bytes =
+    (kind == PART_KIND) && (is_part bytes && ((part_of bytes).id == id))

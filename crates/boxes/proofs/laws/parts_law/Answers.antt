@@ -1,5 +1,5 @@
-use Rattle.long_text.proofs.Reading.{only, read}
-use Rattle.long_text.proofs.laws.parts_law.Goals as goal
+use Rattle.boxes.proofs.Reading.{only, read}
+use Rattle.boxes.proofs.laws.parts_law.Goals as goal
 
 pub returns-clause-read : goal.returns-clause-read
 returns-clause-read c = read

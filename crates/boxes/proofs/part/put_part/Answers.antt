@@ -1,8 +1,8 @@
 use Rattle.std.proofs.Common.{subst}
 use Rattle.dr_base.specs.Buffer.{Puts}
 use Rattle.dr_base.proofs.Putting.{then_puts}
-use Rattle.long_text.specs.Parts.{Part, part_text}
-use Rattle.long_text.proofs.part.put_part.Goals as goal
+use Rattle.boxes.specs.Parts.{Part, part_text}
+use Rattle.boxes.proofs.part.put_part.Goals as goal
 
 pub returns : goal.returns
 returns c =

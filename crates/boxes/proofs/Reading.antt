@@ -7,8 +7,8 @@ use Rattle.dr_base.specs.Bytes.{AreBytes}
 use Rattle.dr_base.proofs.Bytes.{AreBytes-take}
 use Rattle.dr_base.proofs.Widths.{exact32}
 use Rattle.dr_base.specs.declared.limits.TheConstants.{TEXT_LIMIT}
-use Rattle.long_text.specs.Parts.{IsPart, Part, is_part, part_of, part_read, part_text}
-use Rattle.long_text.specs.declared.limits.TheConstants.{PARTS_LIMIT, PART_HEAD}
+use Rattle.boxes.specs.Parts.{IsPart, Part, is_part, part_of, part_read, part_text}
+use Rattle.boxes.specs.declared.limits.TheConstants.{PARTS_LIMIT, PART_HEAD}
 
 pub both_true : (a b : Bool) → a ≡ true → b ≡ true → (a && b) ≡ true
 both_true true b _ e = e
@@ -33,6 +33,16 @@ read part is fits =
     by_test : (t : Bool) → t ≡ true → (if t then Some (part_of (part_text part)) else None) ≡ Some (part_of (part_text part))
     by_test true _ = refl
     by_test false e = absurd (let f : false ≡ true = e in cc)
+
+-- the bytes of a part are no more than a text's
+pub part_fits : (bytes : List ℕ) → is_part bytes ≡ true → length bytes ≤ TEXT_LIMIT
+unfolding is_part
+part_fits bytes e =
+    let number = slice_index_or bytes 4 0 in
+    let count = slice_index_or bytes 5 0 in
+    let halves = and_parts (nat_le PART_HEAD (length bytes) && nat_le (length bytes) TEXT_LIMIT)
+    (nat_le 1 number && (nat_le number count && nat_le count PARTS_LIMIT)) e in
+    leb-true (length bytes) TEXT_LIMIT (and_parts (nat_le PART_HEAD (length bytes)) (nat_le (length bytes) TEXT_LIMIT) halves.0).1
 
 lawful : (bytes : List ℕ) → is_part bytes ≡ true → IsPart (part_of bytes)
 unfolding is_part

@@ -1,0 +1,45 @@
+-- A packet that either side had in its outbox is forged in no later world.
+use Rattle.std.proofs.Common.{List, Some, subst, sym, ℕ, ◌∙◌, ◌≡◌, ◌≤◌}
+use Rattle.std.specs.Prelude.{Contains, slice_get}
+use Rattle.boxes.specs.Posts.{Post}
+use Rattle.dr_base.specs.declared.position.Side.{Side}
+use Rattle.dr_disk.specs.State.{DiskState}
+use Rattle.dr_model.specs.Machines.WorldSides.{kept_in}
+use Rattle.dr_model.specs.Machines.Worlds.{World, view_of}
+use Rattle.dr_model.specs.Theorems.Fairness.{IsUnforged}
+use Rattle.dr_model.specs.Theorems.Headline.{Headline}
+use Rattle.dr_model.specs.Theorems.LawfulWorlds.{IsLawfulWorld}
+use Rattle.dr_model.proofs.Taking.PacketsApart.{real}
+use Rattle.kem_laws.specs.Mechanism.{Mechanism}
+use Rattle.client.specs.Cells.{client_cell}
+use Rattle.client.specs.Moments.{AreLinked, IsAmongKnown}
+use Rattle.client.proofs.Later.{lawful_at}
+use Rattle.client.proofs.OnePacket.{IsPosted, posted_all}
+use Rattle.client.proofs.Standing.{among, first_later}
+use Rattle.conversation.specs.Joints.{Joint, known_in}
+use Rattle.conversation.specs.Kept.{Keeps}
+use Rattle.conversation.proofs.Held.{later_known}
+use Rattle.conversation.proofs.Lasting.{keeps}
+
+real_later : (k : Mechanism) (w v : World) (side taker : Side) (post : Post)
+    → Keeps k taker w v → Contains (kept_in k w side).outbox post → IsUnforged k v taker post.packet
+real_later k w v side taker post kept stands =
+    let is = among (IsPosted k w.conversation) (kept_in k w side).outbox post
+    (posted_all k w.conversation (view_of w side)) stands in
+    let there = kept.said is.place is.said in
+    subst (λ (i : Post). IsUnforged k v taker i.packet) (there.2 ∙ sym is.is)
+    (real k v taker is.place kept.lawful there.0)
+
+module _ {X : Type 0} (state : X → DiskState) (k : Mechanism) (laws : Headline k) (taker : Side)
+    (xs : List X) (w : World) (lawful : IsLawfulWorld k w) (joints : ℕ → Joint)
+    (linked : AreLinked state xs k taker w (λ n. known_in k taker (joints n))) where
+  pub honest_later : (n m : ℕ) (b : X) (side : Side) (post : Post) (v : World) → n ≤ m
+      → slice_get xs m ≡ Some b → Contains (kept_in k (joints n).world side).outbox post
+      → IsAmongKnown (known_in k taker (joints m)) v → IsUnforged k v taker post.packet
+  honest_later n m b side post v le is stands which =
+      let sound = lawful_at k w (joints n).world lawful
+      (first_later client_cell state xs k taker w (λ n. known_in k taker (joints n)) linked n m b le
+      is) in
+      real_later k (joints n).world v side taker post
+      (keeps k laws taker (joints n).world v sound
+      (later_known state k laws taker xs w lawful joints linked n m b v le is which)) stands

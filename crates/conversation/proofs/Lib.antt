@@ -1,0 +1,17 @@
+pub mod Acting
+pub mod Own
+pub mod Moved
+pub mod Joined
+pub mod Lasting
+pub mod Held
+pub mod Honest
+pub mod Spoken
+pub mod Answering
+pub mod Said
+pub mod Counts
+pub mod Commands
+pub mod Extending
+pub mod Going
+pub mod AnyRun
+pub mod Begun
+pub mod Talking

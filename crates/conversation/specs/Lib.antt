@@ -1,0 +1,4 @@
+pub mod Joints
+pub mod Answered
+pub mod Kept
+pub mod Talk
