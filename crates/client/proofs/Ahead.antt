@@ -21,6 +21,7 @@ use Rattle.dr_model.proofs.Acting.Posting.{act_grows, act_posts}
 use Rattle.dr_model.proofs.Saying.SayingChecks.{same_check}
 use Rattle.dr_model.proofs.Worlds.WorldViews.{client_of-kept}
 use Rattle.kem_laws.specs.Mechanism.{IsLawfulMechanism, Mechanism}
+use Rattle.session_model.specs.Contents.{Content}
 use Rattle.session_model.specs.Clients.{Client, say_check}
 use Rattle.session_model.specs.Ways.{way_of}
 use Rattle.client.specs.Cells.{Cell}
@@ -35,7 +36,7 @@ pub record IsAhead (k : Mechanism) (side : Side) (ahead w : World) : Type 0 wher
   pub keeps : kept_in k ahead side ≡ kept_in k w side
   pub unfound : (test : Post → Bool) → find test (posts k ahead.conversation) ≡ None → find test (posts k w.conversation) ≡ None
 
-peer_twice : (side : Side) → peer_of (peer_of side) ≡ side
+pub peer_twice : (side : Side) → peer_of (peer_of side) ≡ side
 peer_twice First = refl
 peer_twice Second = refl
 
@@ -64,7 +65,7 @@ unfound_more test xs ys more less none =
     unfound_behind test xs more (less before) ∙ sym (unfound_behind test ys more before) ∙ none
 
 -- some element has P where some element of another list has, one by one
-one_more : {X : Type 0} (P : X → Type 0) (x y : X) (xs ys : List X) → (P x → P y) → (Any P xs → Any P ys) → (n : ℕ) (z : X)
+pub one_more : {X : Type 0} (P : X → Type 0) (x y : X) (xs ys : List X) → (P x → P y) → (Any P xs → Any P ys) → (n : ℕ) (z : X)
     → n < length (x ∷ xs) → slice_index_or (x ∷ xs) n z ≡ z → P z → Any P (y ∷ ys)
 one_more P x y xs ys first rest zero z lt is holds = (0, y, omega arith, refl, first (subst P (sym is) holds))
 one_more P x y xs ys first rest (suc n) z lt is holds =
@@ -81,11 +82,11 @@ module _ (cell : Cell) (k : Mechanism) (law : IsLawfulMechanism k) (follow : Act
   -- ---- what a side does by itself is the same ahead
 
   module _ (ahead w : World) (is : IsAhead k side ahead w) where
-    same_need : (len : ℕ) → needs_seed (may_say k w side len) ≡ needs_seed (may_say k ahead side len)
-    same_need len =
-        ap needs_seed (sym (same_check k w side len is.lawful))
-        ∙ ap (λ (c : Client). needs_seed (say_check c len)) (client_of-kept k w side ∙ sym is.keeps ∙ sym (client_of-kept k ahead side))
-        ∙ ap needs_seed (same_check k ahead side len is.ahead_lawful)
+    same_need : (content : Content) → needs_seed (may_say k w side content) ≡ needs_seed (may_say k ahead side content)
+    same_need content =
+        ap needs_seed (sym (same_check k w side content is.lawful))
+        ∙ ap (λ (c : Client). needs_seed (say_check c content)) (client_of-kept k w side ∙ sym is.keeps ∙ sym (client_of-kept k ahead side))
+        ∙ ap needs_seed (same_check k ahead side content is.ahead_lawful)
 
     unmade : (bytes : List ℕ) → made_at k ahead bytes ≡ None → made_at k w bytes ≡ None
     unmade bytes none =
@@ -96,7 +97,7 @@ module _ (cell : Cell) (k : Mechanism) (law : IsLawfulMechanism k) (follow : Act
         unforged (unmade bytes none) f way read (ap (λ (c : Client). way_of k c.state f) (sym is.keeps) ∙ found)
 
     fair_ahead : (act : Act) → IsFairAct k w side act → IsFairAct k ahead side act
-    fair_ahead (saying text draw) fair = record { needed = fair.needed ∙ same_need (length text); whole = fair.whole }
+    fair_ahead (saying content draw) fair = record { needed = fair.needed ∙ same_need content; whole = fair.whole }
     fair_ahead (taking bytes) fair = unforged_ahead bytes fair
     fair_ahead act fair = tt
 
@@ -123,14 +124,14 @@ module _ (cell : Cell) (k : Mechanism) (law : IsLawfulMechanism k) (follow : Act
         }
 
   -- and so are acts, one after the other
-  fair_acts : (ahead w : World) (acts : List Act) → IsAhead k side ahead w → AreFairActs k side w acts → AreFairActs k side ahead acts
+  pub fair_acts : (ahead w : World) (acts : List Act) → IsAhead k side ahead w → AreFairActs k side w acts → AreFairActs k side ahead acts
   fair_acts ahead w [] is fair = tt
   fair_acts ahead w (act ∷ acts) is fair = (
     fair_ahead ahead w is act fair.0,
     fair_acts (act_in k ahead side act).next (act_in k w side act).next acts (ahead_next ahead w is act fair.0) fair.1,
   )
 
-  same_acts : (ahead w : World) (acts : List Act) → IsAhead k side ahead w → AreFairActs k side w acts
+  pub same_acts : (ahead w : World) (acts : List Act) → IsAhead k side ahead w → AreFairActs k side w acts
       → kept_in k (acts_in k side ahead acts) side ≡ kept_in k (acts_in k side w acts) side
   same_acts ahead w [] is fair = is.keeps
   same_acts ahead w (act ∷ acts) is fair =
@@ -142,7 +143,7 @@ module _ (cell : Cell) (k : Mechanism) (law : IsLawfulMechanism k) (follow : Act
     abbrev pub next : World
     next = (act_in k w (peer_of side) act).next
 
-    goes_ahead : IsAhead k side next w
+    pub goes_ahead : IsAhead k side next w
     goes_ahead = record {
       lawful = lawful;
       ahead_lawful = follow.lawful w (peer_of side) act lawful fair;

@@ -15,6 +15,7 @@ use Rattle.dr_disk.specs.State.{Always, DiskState, IsLawful}
 use Rattle.dr_disk.specs.declared.call.Call.{Call}
 use Rattle.dr_disk.proofs.Steps.{spans, widen}
 use Rattle.kem_laws.specs.Mechanism.{Mechanism}
+use Rattle.session_model.specs.BoxKeys.{relay_keys_of}
 use Rattle.session_model.specs.States.{opening_state}
 use Rattle.session_record.specs.Record.{client_of, record_text}
 use Rattle.slot_store.specs.Found.{found_as}
@@ -114,7 +115,7 @@ none_by a false from isnt = refl
 -- ---- the world in which a conversation begins
 
 kept_at : (k : Mechanism) (key : List ℕ) (side : Side) (format other : Format)
-    → client_of (opening_state k key side format) [] [] ≡ kept_in k (opening_world key (formats_of side format other)) side
+    → client_of (opening_state k key side format) [] [] (Some (relay_keys_of key)) ≡ kept_in k (opening_world key (formats_of side format other)) side
 kept_at k key First format other = sym (opening_client k key (formats_of First format other) First)
 kept_at k key Second format other = sym (opening_client k key (formats_of Second format other) Second)
 

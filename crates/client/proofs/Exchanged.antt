@@ -16,6 +16,7 @@ use Rattle.dr_model.proofs.Taking.MadePositions.{position-post_at}
 use Rattle.dr_model.proofs.Taking.PacketsApart.{made_at-post, real}
 use Rattle.dr_ports.specs.States.{DrawsState}
 use Rattle.kem_laws.specs.Mechanism.{IsLawfulMechanism, Mechanism}
+use Rattle.session_model.specs.Contents.{Content}
 use Rattle.session_model.specs.Clients.{Client}
 use Rattle.session_model.specs.declared.answer.Answer.{Answer}
 use Rattle.session_model.specs.declared.answer.Answer.TheVariants.{Opened, Said}
@@ -52,22 +53,22 @@ module _ {X : Type 0} (state : X → DiskState) (k : Mechanism) (side : Side) wh
 
 -- ---- a text that was said
 
-record IsSaid (k : Mechanism) (w : World) (side : Side) (text : List ℕ) (old new : ClientNow) (start now : DiskState) (answer : Answer)
+record IsSaid (k : Mechanism) (w : World) (side : Side) (content : Content) (old new : ClientNow) (start now : DiskState) (answer : Answer)
     : Type 0 where
   draw : Option (List ℕ)
-  fair : IsFairAct k w side (saying text draw)
-  acts : ActsIn k w side (saying text draw) old new start now (acknowledged answer)
+  fair : IsFairAct k w side (saying content draw)
+  acts : ActsIn k w side (saying content draw) old new start now (acknowledged answer)
 
-said_in : {V : Type 0} (draws : V → DrawsState) (k : Mechanism) (w : World) (side : Side) (text : List ℕ)
+said_in : {V : Type 0} (draws : V → DrawsState) (k : Mechanism) (w : World) (side : Side) (content : Content)
     (old new : ClientNow) (start now : DiskState) (source left : V) (answer : Answer) (outcome : Outcome) → outcome ≡ acknowledged answer
-    → old.closed ≡ None → SaysIn draws k w side text old new start now source left outcome
-    → IsSaid k w side text old new start now answer
-said_in draws k w side text old new start now source left answer outcome is unclosed (acted ending draw drawn fair acts) = record {
+    → old.closed ≡ None → SaysIn draws k w side content old new start now source left outcome
+    → IsSaid k w side content old new start now answer
+said_in draws k w side content old new start now source left answer outcome is unclosed (acted ending draw drawn fair acts) = record {
   draw = draw;
   fair = fair unclosed;
-  acts = subst (ActsIn k w side (saying text draw) old new start now) is acts;
+  acts = subst (ActsIn k w side (saying content draw) old new start now) is acts;
 }
-said_in draws k w side text old new start now source left answer outcome is unclosed (stayed asks rose same stays) =
+said_in draws k w side content old new start now source left answer outcome is unclosed (stayed asks rose same stays) =
     absurd (let e : undrawn ≡ acknowledged answer = is in cc)
 
 -- ---- a packet that stands in a client's outbox
@@ -91,11 +92,11 @@ module _ (k : Mechanism) (w : World) (side : Side) (client : ClientNow) (is : Is
 
 -- a side of a world is one of the world that the other side's act leads to
 module _ (k : Mechanism) (follow : ActsFollow k) where
-  second_ahead : (w : World) (text : List ℕ) (draw : Option (List ℕ)) (client : ClientNow) → IsIn k w Second client
-      → IsFairAct k w First (saying text draw) → IsIn k (act_in k w First (saying text draw)).next Second client
-  second_ahead w text draw client is fair = record {
-    lawful = follow.lawful w First (saying text draw) is.lawful fair;
-    keeps = is.keeps ∙ sym (follow.others w First (saying text draw) is.lawful fair);
+  second_ahead : (w : World) (content : Content) (draw : Option (List ℕ)) (client : ClientNow) → IsIn k w Second client
+      → IsFairAct k w First (saying content draw) → IsIn k (act_in k w First (saying content draw)).next Second client
+  second_ahead w content draw client is fair = record {
+    lawful = follow.lawful w First (saying content draw) is.lawful fair;
+    keeps = is.keeps ∙ sym (follow.others w First (saying content draw) is.lawful fair);
   }
 
 -- ---- the exchange
@@ -105,21 +106,21 @@ module _ {D E V : Type 0} (state : D → DiskState) (lawful : (d : D) → IsLawf
     (asks : Call D) (hears answers : Call E) (crashed : D) (reads : Call D) (question answer : Post)
     (happens : IsExchange state peers draws k asks hears answers crashed reads question answer)
     (first : IsIn k w First asks.old) (second : IsIn k w Second hears.old) (rests : Always (StandsFor k w First) (state asks.start)) where
-  asked : IsSaid k w First happens.text asks.old asks.new (state asks.start) (state asks.now) (Said happens.asked.position)
+  asked : IsSaid k w First happens.content asks.old asks.new (state asks.start) (state asks.now) (Said happens.asked.position)
   asked =
-      said_in draws k w First happens.text asks.old asks.new (state asks.start) (state asks.now) happens.asked.source
+      said_in draws k w First happens.content asks.old asks.new (state asks.start) (state asks.now) happens.asked.source
       happens.asked.left (Said happens.asked.position) (acknowledged (Said happens.asked.position)) refl happens.asked.was_open
       (happens.asked.says w First first)
 
   abbrev w1 : World
-  w1 = (act_in k w First (saying happens.text asked.draw)).next
+  w1 = (act_in k w First (saying happens.content asked.draw)).next
 
   -- Second takes it
   heard_fair : IsUnforged k w1 Second question.packet
   heard_fair = honest_for k w1 First asks.new asked.acts.1 happens.asked.at question happens.asked.stands Second
 
   heard : ActsIn k w1 Second (taking question.packet) hears.old hears.new (peers hears.start) (peers hears.now) (acknowledged (Opened happens.heard.position))
-  heard = happens.heard.takes w1 Second (second_ahead k follow w happens.text asked.draw hears.old second asked.fair) heard_fair
+  heard = happens.heard.takes w1 Second (second_ahead k follow w happens.content asked.draw hears.old second asked.fair) heard_fair
 
   abbrev w2 : World
   w2 = (act_in k w1 Second (taking question.packet)).next
@@ -173,7 +174,7 @@ module _ {D E V : Type 0} (state : D → DiskState) (lawful : (d : D) → IsLawf
 
   chain : Chain state k First moments all_known
   chain =
-      let says = was_acknowledged (settled_in w) w (inl refl) (saying happens.text asked.draw) asked.fair asked.acts.3 in
+      let says = was_acknowledged (settled_in w) w (inl refl) (saying happens.content asked.draw) asked.fair asked.acts.3 in
       let peer_takes = was_moved (settled_in w1) (settled_in w2)
       (moves_settled client_cell k law follow First w1 (taking question.packet) asked.acts.1.lawful heard_fair) (λ c left. inl left) in
       let peer_says = was_moved (settled_in w2) (settled_in w3)

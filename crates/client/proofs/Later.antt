@@ -13,14 +13,14 @@ use Rattle.dr_model.specs.Theorems.LawfulWorlds.{IsLawfulWorld}
 use Rattle.dr_model.proofs.Worlds.LawfulWorlds.{lawful_run}
 use Rattle.kem_laws.specs.Mechanism.{Mechanism}
 use Rattle.relay_wire.specs.Replies.{Replied}
-use Rattle.sync_model.specs.Courses.{Course, begun, course_from, read_one}
+use Rattle.sync_model.specs.Courses.{Course, begun, course_from, read_one, repeats}
 use Rattle.sync_model.specs.Parties.{Party}
 use Rattle.sync_model.specs.Simulation.{AreFairFrom}
 use Rattle.client.specs.Moments.{AreFairActs, IsActed, IsLater, acts_in, reached_by}
 use Rattle.client.specs.Syncing.InWorlds.{AreUnforged, course_in}
 use Rattle.client.specs.Syncing.Parties.{oldest_sent, world_party}
 use Rattle.client.proofs.Syncs.Courses.{read_on}
-use Rattle.client.proofs.Syncs.Steps.{Fair, HoldsOfSteps, course_leads, move_leads}
+use Rattle.client.proofs.Syncs.Steps.{Fair, HoldsOfSteps, course_leads, heard_leads}
 
 runs_on : (k : Mechanism) (w : World) (hs es : List Event) → run_of k w (hs ++ es) ≡ run_of k (run_of k w hs) es
 runs_on k w [] es = refl
@@ -47,9 +47,9 @@ event_later k w h whole = record { events = h ∷ []; whole = All-cons IsSeedWho
 -- an act is an event, after its seed where one was drawn
 pub act_later : (k : Mechanism) (side : Side) (w : World) (act : Act) → IsFairAct k w side act
     → IsLater k w (act_in k w side act).next
-act_later k side w (saying text None) fair = event_later k w (event_of side (saying text None)) tt
-act_later k side w (saying text (Some seed)) fair =
-    let act = saying text (Some seed) in
+act_later k side w (saying content None) fair = event_later k w (event_of side (saying content None)) tt
+act_later k side w (saying content (Some seed)) fair =
+    let act = saying content (Some seed) in
     later_twice k w (step_of k w (seeds seed)).next (act_in k w side act).next
     (event_later k w (seeds seed) fair.whole) (event_later k (step_of k w (seeds seed)).next (event_of side act) tt)
 act_later k side w act fair = event_later k w (event_of side act) tt
@@ -112,7 +112,7 @@ module _ (k : Mechanism) (prefix : List ℕ) (side : Side) (first : World) where
   reached_acted c [] fair = All-nil (IsActed k side c.state)
   reached_acted c (reply ∷ replies) fair =
       let next = (read_one p c reply).state in
-      let step = move_leads k prefix side first (IsActed k side) by_acts c.state c.wait reply fair.0 in
+      let step = heard_leads k prefix side first (IsActed k side) by_acts c reply (repeats p c reply) fair.0 in
       All-cons (IsActed k side c.state) next (reached_by p (read_one p c reply) replies) step
       (All-weaker (IsActed k side next) (IsActed k side c.state) (λ w later. acted_twice k side c.state next w step later)
       (reached_by p (read_one p c reply) replies) (reached_acted (read_one p c reply) replies fair.1))

@@ -1,4 +1,4 @@
-mod Ahead
+pub mod Ahead
 mod Areas
 mod Beginnings
 pub mod Drawing
@@ -6,6 +6,7 @@ mod Exchanged
 pub mod Lawful
 pub mod Later
 pub mod Lifted
+mod LongTexts
 pub mod OnePacket
 pub mod Openings
 pub mod Readiness

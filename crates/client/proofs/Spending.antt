@@ -9,6 +9,7 @@ use Rattle.dr_base.specs.declared.position.Position.{Position}
 use Rattle.dr_base.specs.declared.position.Side.{Side}
 use Rattle.dr_disk.specs.State.{Always, DiskState}
 use Rattle.kem_laws.specs.Mechanism.{Mechanism}
+use Rattle.session_model.specs.Contents.{Content}
 use Rattle.session_model.specs.Clients.{Client, accept_send, say_check}
 use Rattle.session_model.specs.Saying.{SendDraft, draft_send}
 use Rattle.session_model.specs.Sealing.{posted}
@@ -131,20 +132,20 @@ posts_by client next p (Some draft) h =
       last = sym (ap (λ (s : Step Client). s.next.outbox) same);
     }
 
-posts_checked : (k : Mechanism) (client next : Client) (text : List ℕ) (draw : Option (List ℕ)) (p : Position)
-    (r : Result Bool Refusal) → saying_by k client text draw r ≡ Ok (step (Said p) next) → HasPosted client next p
-posts_checked k client next text draw p (Err refusal) h = absurd (cc h)
-posts_checked k client next text draw p (Ok turns) h =
-    posts_by client next p (draft_send k client.state text (given_or [] draw)) h
+posts_checked : (k : Mechanism) (client next : Client) (content : Content) (draw : Option (List ℕ)) (p : Position)
+    (r : Result Bool Refusal) → saying_by k client content draw r ≡ Ok (step (Said p) next) → HasPosted client next p
+posts_checked k client next content draw p (Err refusal) h = absurd (cc h)
+posts_checked k client next content draw p (Ok turns) h =
+    posts_by client next p (draft_send k client.state content (given_or [] draw)) h
 
 -- so a text whose saying is answered so was said
-pub said_used : (k : Mechanism) (w : World) (side : Side) (client next : Client) (text : List ℕ) (draw : Option (List ℕ))
-    (p : Position) → act_on k client (saying text draw) ≡ Ok (step (Said p) next) → IsLawfulWorld k w
+pub said_used : (k : Mechanism) (w : World) (side : Side) (client next : Client) (content : Content) (draw : Option (List ℕ))
+    (p : Position) → act_on k client (saying content draw) ≡ Ok (step (Said p) next) → IsLawfulWorld k w
     → next ≡ kept_in k w side → (is_said w.conversation p ≡ true) × (is_own side p.epoch ≡ true)
-said_used k w side client next text draw p made lawful is =
+said_used k w side client next content draw p made lawful is =
     let c = w.conversation in
     let v = view_of w side in
-    let has = posts_checked k client next text draw p (say_check client (length text)) made in
+    let has = posts_checked k client next content draw p (say_check client content) made in
     let outbox : client.outbox ++ has.post ∷ [] ≡ outbox_of k c v = sym has.last ∙ ap (λ (x : Client). x.outbox) is in
     let own : IsOwnPost c v.side has.post =
     all_last (IsOwnPost c v.side) client.outbox has.post (subst (All (IsOwnPost c v.side)) (sym outbox) (posts_own k c v)) in (

@@ -13,6 +13,7 @@ use Rattle.dr_model.proofs.Saying.SayingChecks.{same_check}
 use Rattle.dr_model.proofs.Worlds.WorldViews.{client_of-kept}
 use Rattle.dr_ports.specs.States.{DrawsState}
 use Rattle.kem_laws.specs.Mechanism.{Mechanism}
+use Rattle.session_model.specs.Contents.{Content}
 use Rattle.session_model.specs.Clients.{Client, say_check}
 use Rattle.session_model.specs.declared.answer.Answer.TheVariants.{Said}
 use Rattle.client.specs.Keepings.{HoldsKept, Keeping, MayKeeperAct, cell_of}
@@ -46,73 +47,73 @@ take_spends keeping k grounds packet old new start now (Ok p) acts = λ w side i
 
 -- an unclosed client asks for a seed where the machine needs one
 asked : {S : Type 0} (keeping : Keeping S) (k : Mechanism) (w : World) (side : Side) (client : S)
-    (len : ℕ) (asks : Bool) → IsKeeperIn keeping k w side client
-    → keeper_asks_seed keeping client len ≡ asks → keeping.closed client ≡ None
-    → asks ≡ needs_seed (may_say k w side len)
-asked keeping k w side client len asks is e unclosed =
+    (content : Content) (asks : Bool) → IsKeeperIn keeping k w side client
+    → keeper_asks_seed keeping client content ≡ asks → keeping.closed client ≡ None
+    → asks ≡ needs_seed (may_say k w side content)
+asked keeping k w side client content asks is e unclosed =
     sym e
-    ∙ ap (λ closed. is_none closed && needs_seed (say_check (keeping.kept client) len)) unclosed
-    ∙ ap (λ (c : Client). needs_seed (say_check c len)) (is.keeps ∙ sym (client_of-kept k w side))
-    ∙ ap needs_seed (same_check k w side len is.lawful)
+    ∙ ap (λ closed. is_none closed && needs_seed (say_check (keeping.kept client) content)) unclosed
+    ∙ ap (λ (c : Client). needs_seed (say_check c content)) (is.keeps ∙ sym (client_of-kept k w side))
+    ∙ ap needs_seed (same_check k w side content is.lawful)
 
 module _ {S : Type 0} (keeping : Keeping S) (k : Mechanism) (grounds : Grounds k) (w : World)
-    (side : Side) (text : List ℕ) (old new : S)
+    (side : Side) (content : Content) (old new : S)
     (is : IsKeeperIn keeping k w side old) {X W : Type 0} (state : X → DiskState) (holds : (x : X) → HoldsKept keeping (state x)) (draws : W → DrawsState)
     (start now : X) (source left : W) (ready : MayKeeperAct keeping old (state start)) where
-  fair_without : keeper_asks_seed keeping old (length text) ≡ false → keeping.closed old ≡ None
-      → IsFairAct k w side (saying text None)
+  fair_without : keeper_asks_seed keeping old content ≡ false → keeping.closed old ≡ None
+      → IsFairAct k w side (saying content None)
   fair_without none unclosed =
       record {
         needed = asked keeping k w side old
-            (length text) false is none unclosed;
+            content false is none unclosed;
         whole = tt;
       }
 
-  fair_with : (seed : List ℕ) → keeper_asks_seed keeping old (length text) ≡ true → length seed ≡ 32
+  fair_with : (seed : List ℕ) → keeper_asks_seed keeping old content ≡ true → length seed ≡ 32
       → keeping.closed old ≡ None
-      → IsFairAct k w side (saying text (Some seed))
+      → IsFairAct k w side (saying content (Some seed))
   fair_with seed asks long unclosed =
       record {
         needed = asked keeping k w side old
-            (length text) true is asks unclosed;
+            content true is asks unclosed;
         whole = long;
       }
 
   pub says_in : (result : Result Position SayRefusal)
-      → KeeperSaysWithDraw keeping state draws k text old new start now source left result
-      → KeeperSaysIn keeping draws k w side text old new (state start) (state now) source left
+      → KeeperSaysWithDraw keeping state draws k content old new start now source left result
+      → KeeperSaysIn keeping draws k w side content old new (state start) (state now) source left
       (said_as result)
   says_in result (without_draw r none same acts) =
       acted (said_as r) None (was_unasked none same) (fair_without none)
-      (lift keeping k grounds w side (saying text None) old new is state holds start now ready (fair_without none) (said_as r) acts)
+      (lift keeping k grounds w side (saying content None) old new is state holds start now ready (fair_without none) (said_as r) acts)
   says_in result (with_draw r seed asks long drew quiet acts back) =
       acted (said_as r) (Some seed.bytes) (was_drawn seed.bytes asks long drew quiet) (fair_with seed.bytes asks long)
-      (lift keeping k grounds w side (saying text (Some seed.bytes)) old new is state holds start now ready
+      (lift keeping k grounds w side (saying content (Some seed.bytes)) old new is state holds start now ready
       (fair_with seed.bytes asks long) (said_as r) acts)
   says_in result (draw_failed asks rose same stays leaves) = stayed asks rose same stays
 
   done_spends : (draw : Option (List ℕ)) (p : Position)
-      → (keeping.closed old ≡ None → IsFairAct k w side (saying text draw))
-      → IsKeeperDone keeping (act_on k (keeping.kept old) (saying text draw)) old new (state start)
+      → (keeping.closed old ≡ None → IsFairAct k w side (saying content draw))
+      → IsKeeperDone keeping (act_on k (keeping.kept old) (saying content draw)) old new (state start)
       (state now) (Said p)
-      → IsSpentInCell (cell_of keeping old) k (act_in k w side (saying text draw)).next side p
+      → IsSpentInCell (cell_of keeping old) k (act_in k w side (saying content draw)).next side p
       (state now)
   done_spends draw p fair acts =
-      let next = (act_in k w side (saying text draw)).next in
+      let next = (act_in k w side (saying content draw)).next in
       let worlds =
       lift keeping k grounds w side
-      (saying text draw) old new is state holds start now ready fair
+      (saying content draw) old new is state holds start now ready fair
       (acknowledged (Said p)) acts in
       let used =
       inr (said_used k next side (keeping.kept old)
-      (keeping.kept new) text draw p acts.made_is worlds.1.lawful worlds.1.keeps) in
+      (keeping.kept new) content draw p acts.made_is worlds.1.lawful worlds.1.keeps) in
       record { used = used; erased = used_erased (cell_of keeping old) k grounds.erased next side p (state now) worlds.1.lawful worlds.3 used }
 
   pub say_spends : (result : Result Position SayRefusal)
-      → KeeperSaysWithDraw keeping state draws k text old new start now source left result
+      → KeeperSaysWithDraw keeping state draws k content old new start now source left result
       → IfOk result
-      (λ p. (draw : Option (List ℕ)) × KeeperDraws keeping draws old (length text) source left draw
-      × IsSpentInCell (cell_of keeping old) k (act_in k w side (saying text draw)).next side p (state now))
+      (λ p. (draw : Option (List ℕ)) × KeeperDraws keeping draws old content source left draw
+      × IsSpentInCell (cell_of keeping old) k (act_in k w side (saying content draw)).next side p (state now))
   say_spends result (without_draw (Ok p) none same acts) = (None, was_unasked none same, done_spends None p (fair_without none) acts)
   say_spends result (without_draw (Err e) none same acts) = tt
   say_spends result (with_draw (Ok p) seed asks long drew quiet acts back) =

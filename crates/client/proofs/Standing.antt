@@ -104,7 +104,7 @@ module _ (cell : Cell) (k : Mechanism) (side : Side) (first : World) where
       (All-append (IsActed k side known.last) known.doubtful worlds still.doubtful_acted
       (All-weaker (IsActed k side w) (IsActed k side known.last) (λ v is. acted_twice k side known.last w v (opened_acted known a w which still) is) worlds acted))
 
-  goes_on : (a b : DiskState) (before after : Known) → CellLink cell k side a b before after
+  pub goes_on : (a b : DiskState) (before after : Known) → CellLink cell k side a b before after
       → Still before a → Still after b
   goes_on a b before after (was_opened known w which rests) still = settled_still w b (opened_later known a w which still) rests
   goes_on a b before after (was_acknowledged known w which act fair rests) still =

@@ -3,6 +3,7 @@ pub mod Courses
 pub mod Going
 pub mod Ending
 pub mod Turning
+pub mod Asking
 pub mod Collecting
 pub mod Written
 pub mod Naming
@@ -21,3 +22,4 @@ pub mod Steps
 pub mod Covered
 pub mod Tallies
 pub mod InOrder
+pub mod Rounds

@@ -8,6 +8,7 @@ use Rattle.dr_disk.specs.Calls.{Unwritten}
 use Rattle.dr_disk.specs.Spans.{IsQuiet}
 use Rattle.dr_disk.specs.State.{DiskState}
 use Rattle.kem_laws.specs.Mechanism.{Mechanism}
+use Rattle.session_model.specs.BoxKeys.{relay_keys_of}
 use Rattle.session_model.specs.Clients.{Client}
 use Rattle.session_model.specs.Schedule.{agreement_seed}
 use Rattle.session_model.specs.States.{opening_state}
@@ -31,9 +32,10 @@ begin_of side format key = record { side = side; format = format; key = key }
 abbrev pub HasPair : Mechanism → Begin → Type 0
 HasPair k begin = IsSome (k.meaning.pair_of (agreement_seed begin.key.bytes))
 
--- a side at the beginning of a conversation
+-- a side at the beginning of a conversation, with the keys of its boxes at a relay
 abbrev pub begun_client : Mechanism → Begin → Client
-begun_client k begin = client_of (opening_state k begin.key.bytes begin.side begin.format) [] []
+begun_client k begin =
+    client_of (opening_state k begin.key.bytes begin.side begin.format) [] [] (Some (relay_keys_of begin.key.bytes))
 
 -- bytes with the first record of a client, read without damage, which is put only where what was read held none and the key has a
 -- pair; outside the client's area they are as they were

@@ -104,5 +104,5 @@ pub record IsWrittenFrom (k : Mechanism) (kept next : Client) (state : State) (c
     : Type 0 where
   pub inbox : FitsInbox kept.inbox change
   pub outbox : FitsOutbox kept.outbox change
-  pub same : record_text (changed k (client_of state kept.inbox kept.outbox) change)
+  pub same : record_text (changed k (client_of state kept.inbox kept.outbox kept.relay) change)
       ≡ record_text next

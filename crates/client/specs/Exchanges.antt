@@ -18,6 +18,7 @@ use Rattle.client.specs.Moments.{AreLinked, Known, settled_in}
 use Rattle.client.specs.Opening.{OpensIn, ReadsAsSide}
 use Rattle.client.specs.Outcomes.{said_as, taken_as}
 use Rattle.client.specs.Saying.{SaysIn}
+use Rattle.session_model.specs.Contents.{Content}
 
 -- a call of a side: its client and its disk, before and after it
 pub record Call (D : Type 0) : Type 0 where
@@ -29,13 +30,13 @@ pub record Call (D : Type 0) : Type 0 where
 -- An open client said a text, and its packet stands in its outbox.
 pub record Spoke {D V : Type 0} (state : D → DiskState) (draws : V → DrawsState) (k : Mechanism)
     (call : Call D)
-    (text : List ℕ) (post : Post) : Type 0 where
+    (content : Content) (post : Post) : Type 0 where
   pub source : V
   pub left : V
   pub position : Position
   pub was_open : call.old.closed ≡ None
   pub says : (w : World) (side : Side) → IsIn k w side call.old
-      → SaysIn draws k w side text call.old call.new (state call.start) (state call.now) source left (said_as (Ok position))
+      → SaysIn draws k w side content call.old call.new (state call.start) (state call.now) source left (said_as (Ok position))
   pub at : ℕ
   pub stands : slice_get call.new.kept.outbox at ≡ Some post
 
@@ -50,11 +51,11 @@ pub record HasTaken {D : Type 0} (state : D → DiskState) (k : Mechanism) (call
 pub record IsExchange {D E V : Type 0} (state : D → DiskState) (peers : E → DiskState)
     (draws : V → DrawsState)
     (k : Mechanism) (asks : Call D) (hears answers : Call E) (crashed : D) (reads : Call D) (question answer : Post) : Type 0 where
-  pub text : List ℕ
-  pub asked : Spoke state draws k asks text question
+  pub content : Content
+  pub asked : Spoke state draws k asks content question
   pub heard : HasTaken peers k hears question.packet
   pub again : answers.old ≡ hears.new
-  pub reply : List ℕ
+  pub reply : Content
   pub answered : Spoke peers draws k answers reply answer
   pub crashes : (c : List ℕ) → (state crashed).image c → (state asks.now).image c
   pub read : List ℕ

@@ -16,4 +16,5 @@ pub mod Grounds
 pub mod Moments
 pub mod Exchanges
 pub mod Syncing
+pub mod LongTexts
 pub mod Limits

@@ -1,4 +1,5 @@
 pub mod Lines
+pub mod Keys
 pub mod Parties
 pub mod Moments
 pub mod Rounds

@@ -11,7 +11,7 @@ use dr_base::{PAGE, Position, Side};
 use dr_disk::Call;
 use kem_laws::Kem;
 use relay_wire::FrameReader;
-use session_model::{Items, Summary};
+use session_model::{Items, RelayKeys, Summary};
 use slot_store::{Area, LOWER_PAGES, SlotStore};
 use std::marker::Model;
 
@@ -122,6 +122,14 @@ impl<K: Kem> Client<K> {
         ensures { result ≡ slice_get self.now.kept.state.awaiting at }
     {
         self.core.awaiting(at)
+    }
+
+    /// The keys of its session's boxes at a relay: the owner's and the poster's of box 1, then those
+    /// of box 2. None exactly where the session was begun before there were any.
+    pub fn relay_keys(&self) -> Option<RelayKeys>
+        ensures { result ≡ self.now.kept.relay }
+    {
+        self.core.relay_keys()
     }
 
     /// What the client keeps is lawful, so its record is read as just that. It has no code: a

@@ -7,7 +7,7 @@ ghost use Rattle.dr_model.specs.Machines.Steps.{has_effect};
 ghost use Rattle.dr_model.specs.Machines.Worlds.{World};
 ghost use Rattle.session_model.specs.declared.answer.Answer.TheVariants.{Dropped};
 ghost use Rattle.session_model.specs.declared.answer.Items.TheVariants.{Packets, Texts};
-ghost use Rattle.session_model.specs.declared.answer.Which.TheVariants.{Oldest};
+ghost use Rattle.session_model.specs.declared.answer.Which.TheVariants.{OfId, Oldest};
 ghost use Rattle.client.specs.Acting.{IsKeeperAct};
 ghost use Rattle.client.specs.Clients.{IsOpenOn, MayActOn};
 ghost use Rattle.client.specs.Drafting.{HasToDrop};
@@ -64,6 +64,27 @@ impl<K: Kem> Client<K> {
             (dropped_as (Dropped (Oldest Packets n)) result) }
     {
         self.drop_items(disk, Which::Oldest(Items::Packets, n))
+    }
+
+    /// Drops each part of the long text of an id, by one change of the disk. `Closed` exactly where
+    /// a call on the disk failed before, then `NoLong` exactly where none stands. Neither changes
+    /// anything or calls the disk. `StoreFault` as for `done`.
+    pub fn done_long<D: Disk>(&mut self, disk: &mut D, id: u32) -> Result<(), DropRefusal>
+        requires { MayActOn self.old (D.state disk.old) }
+        // Exactly what the side makes of it, but for a failing call on the disk.
+        ensures exact { let which = OfId id in
+            Acts D.state (act_on K.mechanism self.old.kept (dropping which))
+            self.old self.new disk.old disk.new (dropped_as (Dropped which) result) }
+        ensures ready { OnOk result (IsOpenOn self.new (D.state disk.new)) }
+        // In each world that the client stands for, at every moment.
+        ensures in_worlds { (w : World) (side : Side) → IsIn K.mechanism w side self.old
+            → let which = OfId id in
+            ActsIn K.mechanism w side (dropping which) self.old self.new (D.state disk.old)
+            (D.state disk.new) (dropped_as (Dropped which) result) }
+        ensures fate { StaysPassing (D.state disk.old) (D.state disk.new)
+            (dropped_as (Dropped (OfId id)) result) }
+    {
+        self.drop_items(disk, Which::OfId(id))
     }
 
     /// Drops items of a box, as `done` and `sent` do.

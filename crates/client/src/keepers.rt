@@ -1,9 +1,10 @@
 //! What keeps a core on a disk: a client, which is alone there, or a row of a book.
 
-ghost use Rattle.std.specs.Prelude.{◌≡◌, Ok, IfErr, IfOk, IfSome, Some, is_some, length, true};
+ghost use Rattle.std.specs.Prelude.{◌≡◌, Ok, IfErr, IfOk, IfSome, Some, is_some, true};
 ghost use Rattle.dr_model.specs.Machines.Steps.{has_effect};
 ghost use Rattle.ratchet.specs.Seen.{seed_bytes};
 ghost use Rattle.session_model.specs.Clients.{accept_send, say_check, say_on};
+ghost use Rattle.session_model.specs.Contents.{content_with};
 ghost use Rattle.client.specs.Acting.{IsKeeperAct};
 ghost use Rattle.client.specs.Drafting.{DraftsFor, IsDraftOf, IsReceivedOf, IsSaidOf, drafted_answer, drafted_step, said_if};
 ghost use Rattle.client.specs.Keepings.{HoldsKept, IsKeeperOpen, Keeping};
@@ -31,16 +32,19 @@ pub trait Keeper<K: Kem> {
     fn closed(&self) -> Option<Call>
         ensures { result ≡ keeping.closed self.now };
 
-    /// Drafts a text, as `Core::draft_say` does.
+    /// Drafts bytes of a kind, as `Core::draft_say` does.
     fn draft_say<'a>(
         &mut self,
+        kind: u8,
         text: &[u8],
         seed: Option<Key32>,
         room: &'a mut PacketRoom,
     ) -> Result<SendDraft<'a, K>, NoPairFor>
         requires there { keeping.there self.old }
-        requires checked { say_check (keeping.kept self.old) (length text.now) ≡ Ok (is_some seed) }
-        ensures exact { say_on K.mechanism (keeping.kept self.old) text.now (seed_bytes seed)
+        requires checked { say_check (keeping.kept self.old) (content_with kind text.now)
+            ≡ Ok (is_some seed) }
+        ensures exact { say_on K.mechanism (keeping.kept self.old) (content_with kind text.now)
+            (seed_bytes seed)
             ≡ accept_send (keeping.kept self.old) (said_if (keeping.kept self.old).state result) }
         ensures draft { IfOk result (IsSaidOf K.mechanism (keeping.kept self.old)) }
         ensures seed { IfErr result (λ e. seed ≡ Some e.seed) }

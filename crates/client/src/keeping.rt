@@ -64,11 +64,12 @@ impl<K: Kem> Keeper<K> for Client<K> {
     #[inline(always)]
     fn draft_say<'a>(
         &mut self,
+        kind: u8,
         text: &[u8],
         seed: Option<Key32>,
         room: &'a mut PacketRoom,
     ) -> Result<SendDraft<'a, K>, NoPairFor> {
-        self.core.draft_say(text, seed, room)
+        self.core.draft_say(kind, text, seed, room)
     }
 
     #[inline(always)]

@@ -24,6 +24,7 @@ ghost use Rattle.client.specs.Spent.{IsErasedOn, IsUsed};
 
 pub use crate::client::limits_in_numbers;
 pub use crate::histories::{exchange, meanwhile, syncs_are_links};
+pub use crate::long_laws::{long_in_worlds, long_leaves_whole};
 use crate::refusals::OpenRefusal;
 pub use crate::syncing::{goes_over, sent_behind_the_disk};
 use dr_disk::Disk;

@@ -37,7 +37,7 @@ pub use refusals::{
     BeginRefusal, CoreBeginError, DropRefusal, OpenRefusal, SayRefusal, TakeRefusal,
 };
 pub use saying::say;
-pub use syncing::{Names, SyncFault, SyncRefusal};
+pub use syncing::{Names, SyncFault, SyncRefusal, box_bytes};
 pub use taking::take;
 
 mod begin;
@@ -49,6 +49,8 @@ mod histories;
 mod keepers;
 mod keeping;
 pub mod laws;
+mod long_laws;
+mod long_texts;
 mod looking;
 mod opening;
 mod refusals;

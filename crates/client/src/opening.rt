@@ -43,7 +43,7 @@ pub(crate) fn refusal(error: OpenError) -> OpenRefusal
 fn client_in<K: Kem>(room: Room<K>, store: SlotStore) -> Client<K>
     requires some { is_some (content store) ≡ true }
     requires read { (text : List ℕ) → content store ≡ Some text → let core = room.record.room in
-        HasReadClient K.mechanism room.record.session core.inbox core.outbox text }
+        HasReadClient K.mechanism room.record.session core.inbox core.outbox room.record.keys text }
     ensures open { result.closed ≡ None }
     ensures store { result.store ≡ store }
     ensures read { (text : List ℕ) → content store ≡ Some text

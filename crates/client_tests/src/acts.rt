@@ -5,6 +5,7 @@ ghost use Rattle.dr_disk.specs.MemoryDisks.{state_of};
 ghost use Rattle.client.specs.Clients.{IsOpenOn, MayActOn};
 
 use bodies::Format;
+use boxes::parse_part;
 use client::{BeginRefusal, Client, OpenRefusal};
 use dr_base::{Key32, Side};
 use dr_disk::{Disk, MemoryDisk};
@@ -21,14 +22,17 @@ pub const ZEROS: Key32 = Key32 { bytes: [0; 32] };
 /// A text of which only its packet counts, with the byte of its draw.
 pub const HI: Act<'static> = Act::Say(b"hi", 9);
 
-/// What a client does: it says a text, with a draw that has this byte 32 times, takes a packet, or
-/// drops the oldest item of a box.
+/// What a client does: it says a text, with a draw that has this byte 32 times, or a part that has
+/// these bytes, with a draw of the byte 9; takes a packet; drops the oldest item of a box; or drops
+/// the long text of an id.
 #[derive(Clone, Copy)]
 pub enum Act<'a> {
     Say(&'a [u8], u8),
+    Part(&'a [u8]),
     Take(&'a [u8]),
     Done,
     Sent,
+    DoneLong(u32),
 }
 
 /// A new disk. What is known of it here isn't known where it is used, so the checker needn't look
@@ -87,6 +91,25 @@ fn say(
     }
 }
 
+/// Says the part that has these bytes. Answers whether that was acknowledged.
+fn say_part(
+    alloc: Global,
+    bytes: &[u8],
+    client: &mut Client<OpenKem>,
+    disk: &mut MemoryDisk,
+) -> bool
+    requires { MayActOn client.old (state_of disk.old) }
+    ensures { result ≡ true → IsOpenOn client.new (state_of disk.new) }
+{
+    let Some(part) = parse_part(bytes) else {
+        return false;
+    };
+    match SteadyDraws::new(alloc, &[Key32 { bytes: [9; 32] }]) {
+        Ok(mut draws) => client.say_part(disk, &part, &mut draws).is_ok(),
+        Err(_) => false,
+    }
+}
+
 /// Acts. Answers whether that was acknowledged.
 pub fn perform(
     alloc: Global,
@@ -99,9 +122,11 @@ pub fn perform(
 {
     match act {
         Act::Say(text, draw) => say(alloc, text, draw, client, disk),
+        Act::Part(bytes) => say_part(alloc, bytes, client, disk),
         Act::Take(packet) => client.take(disk, packet).is_ok(),
         Act::Done => client.done(disk, 1).is_ok(),
         Act::Sent => client.sent(disk, 1).is_ok(),
+        Act::DoneLong(id) => client.done_long(disk, id).is_ok(),
     }
 }
 

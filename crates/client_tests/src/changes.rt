@@ -55,18 +55,18 @@ pub(crate) fn rows() -> [(&'static [Change], Found); 41] {
         (&[(6, b"\x00\x04\x00\x02\x00\x06")], Found::Damaged(0, 4096)),
         (&[(8194, b"\x04")], Found::Damaged(0, 4098)),
         (&[(9392, b"\x04")], Found::Damaged(0, 5296)),
-        (&[(2, b"\x00\x00\x22\x1b")], Found::Damaged(0, 12824)),
-        (&[(2, b"\x00\x00\x22\x1d")], Found::Damaged(0, 12828)),
+        (&[(2, b"\x00\x00\x22\x9c")], Found::Damaged(0, 12829)),
+        (&[(2, b"\x00\x00\x22\x9e")], Found::Damaged(0, 12957)),
         (
             &[(8192, b"\x09"), (25116, b"\x01")],
             Found::Damaged(0, 4096),
         ),
-        (&[(25116, b"\x01")], Found::Damaged(0, 12828)),
+        (&[(25245, b"\x01")], Found::Damaged(0, 12957)),
         (&[(28671, b"\x01")], Found::Damaged(0, 16383)),
         (&[(4096, b"\xa5\x01")], Found::Damaged(1, 4096)),
         (&[(4096, b"\xa5\x01\x00\x0b\xe0\x01")], Found::Damaged(1, 2)),
         (
-            &[(4096, b"\xa5\x01\x00\x00\x22\x1c\x00\x02\x00\x04\x00\x06")],
+            &[(4096, b"\xa5\x01\x00\x00\x22\x9d\x00\x02\x00\x04\x00\x06")],
             Found::Newer,
         ),
         (

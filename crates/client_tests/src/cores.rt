@@ -3,7 +3,7 @@
 
 use crate::acts::ZEROS;
 use bodies::Format;
-use boxes::{Inbox, Outbox};
+use boxes::{Inbox, Outbox, TEXT_KIND};
 use client::{Core, Draft};
 use dr_base::{Position, Side};
 use kem_laws::OpenKem;
@@ -14,16 +14,16 @@ use std::alloc::Global;
 
 /// Says the text "hi", which is in epoch 0: a first draft is let be, a second one accepted.
 fn say(core: &mut Core<OpenKem>) -> bool {
-    match core.say_check(2) {
+    match core.say_check(TEXT_KIND, b"hi") {
         Ok(false) => {}
         _ => return false,
     }
     let mut room = PacketRoom::new();
-    let Ok(draft) = core.draft_say(b"hi", None, &mut room) else {
+    let Ok(draft) = core.draft_say(TEXT_KIND, b"hi", None, &mut room) else {
         return false;
     };
     draft.discard();
-    let Ok(draft) = core.draft_say(b"hi", None, &mut room) else {
+    let Ok(draft) = core.draft_say(TEXT_KIND, b"hi", None, &mut room) else {
         return false;
     };
     core.accept(Draft::Said(draft));

@@ -1,6 +1,6 @@
 //! Syncs that break off: each fault of the relay's, the link's and the sink's.
 
-use crate::firsts::FETCH;
+use crate::firsts::{AGAIN, FETCH};
 use crate::syncs::{End, Row, first, second};
 use client::{SyncFault, SyncRefusal};
 use relay_pipe::PeerKind;
@@ -11,7 +11,8 @@ use sync_model::More;
 /// comes to its end, writes its lines and sends its requests.
 fn each_is_told(alloc: Global) -> bool {
     let unknown = Err(SyncFault::Refused(SyncRefusal::Unknown));
-    let rows: [(&[u8], &[u64], &[u64], End, &[u8], &[u8]); 7] = [
+    let denied = Err(SyncFault::Refused(SyncRefusal::Denied { rule: 2 }));
+    let rows: [(&[u8], &[u64], &[u64], End, &[u8], &[u8]); 10] = [
         (b"\x00\x01\x83", &[], &[], Ok(More::End), b"it end\n", FETCH),
         (
             b"",
@@ -47,6 +48,31 @@ fn each_is_told(alloc: Global) -> bool {
             FETCH,
         ),
         (b"\x00\x01\x86", &[], &[], unknown, b"", FETCH),
+        (
+            b"\x00\x0a\x89\x02\x00\x00\x00\x00\x00\x00\x00\x00",
+            &[],
+            &[],
+            denied,
+            b"",
+            FETCH,
+        ),
+        (
+            b"\x00\x0a\x89\x03\x00\x00\x00\x00\x00\x00\x00\x07\x00\x01\x83",
+            &[],
+            &[],
+            Ok(More::End),
+            b"it end\n",
+            AGAIN,
+        ),
+        (
+            b"\x00\x0a\x89\x03\x00\x00\x00\x00\x00\x00\x00\x07\
+                \x00\x0a\x89\x02\x00\x00\x00\x00\x00\x00\x00\x00",
+            &[],
+            &[],
+            denied,
+            b"",
+            AGAIN,
+        ),
         (
             b"\x00\x01\x83",
             &[],

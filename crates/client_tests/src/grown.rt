@@ -19,15 +19,15 @@ const KEY: Key32 = Key32 {
 /// Second's disk with the record in version 1, by an independent implementation.
 const BEFORE: &str = "f30d5e38afb7987a462b8335fa49f58039ee5ad57f9bf84d6b70f631fa0f2173";
 
-/// The disk once it was opened, with the record in the newest version, in which no text waits; by
-/// the same.
-const AFTER: &str = "fc70071be6289612e74dbe7626b37998fffc8758be279f455a20a20c9a1a9140";
+/// The disk once it was opened, with the record in the newest version, in which no text waits and
+/// there are no keys; by the same.
+const AFTER: &str = "a8d628130f90f4fdbf9a7ff5c29888388499f6279b2782aa8c030801db2a1f5a";
 
-/// The record in the newest version, in which all five texts wait, by the same.
-const RECORD: &str = "93afc52bf47660e3837b27a0ddb61bc6215c8bb1c9aabd2901128d54150132a1";
+/// The record in the newest version, in which all five texts wait, with its keys; by the same.
+const RECORD: &str = "2ae2c745d328f40b58b65a04e4e78136456f09c30606062d642c9a76bca78539";
 
 /// How many bytes it has, of which a page has this many.
-const LEN: usize = 6122;
+const LEN: usize = 6251;
 
 const PAGE: usize = 4096;
 
@@ -85,7 +85,7 @@ fn talks(alloc: Global, disk: &mut MemoryDisk) -> bool {
     }
 }
 
-/// The record that pages 2 and 5 of a disk hold, where it has that length.
+/// The record that pages 2 and 4 of a disk hold, where it has that length.
 fn record_of(alloc: Global, disk: &mut MemoryDisk) -> Option<Vec<u8>> {
     let bytes = match bytes_of(alloc, disk) {
         Some(bytes) if bytes.len() == SIZE as usize => bytes,
@@ -95,7 +95,7 @@ fn record_of(alloc: Global, disk: &mut MemoryDisk) -> Option<Vec<u8>> {
         Ok(text) => text,
         Err(_) => return None,
     };
-    match text.extend_from_slice(&bytes[5 * PAGE..4 * PAGE + LEN]) {
+    match text.extend_from_slice(&bytes[4 * PAGE..3 * PAGE + LEN]) {
         Ok(()) => Some(text),
         Err(_) => None,
     }
@@ -114,15 +114,15 @@ fn aged(alloc: Global, text: &[u8]) -> Option<Vec<u8>> {
     if pushed { Some(old) } else { None }
 }
 
-/// Makes that record, in pages 2 and 5 under table 0, one of version 1.
+/// Makes that record, in pages 2 and 4 under table 0, one of version 1 in pages 2 and 5.
 fn ages(alloc: Global, disk: &mut MemoryDisk, text: &[u8]) -> bool {
     match aged(alloc, text) {
         Some(old) if old.len() == AGED => {
             let (front, back) = old.split_at(PAGE);
-            lays(disk, 2, b"\x00\x00\x17\xbf")
+            lays(disk, 2, b"\x00\x00\x17\xbf\x00\x02\x00\x05")
                 && lays(disk, 8192, front)
+                && lays(disk, 16384, &[0; LEN - PAGE])
                 && lays(disk, 20480, back)
-                && lays(disk, 22463, &[0; LEN - AGED])
         }
         _ => false,
     }

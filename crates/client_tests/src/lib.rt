@@ -1,5 +1,5 @@
 //! Tests of clients on disks in memory: each act once, stopped at each write, syncs over links in
-//! memory, a text that is known to be opened, and disks of an earlier version that are opened.
+//! memory, long texts, a text that is known to be opened, and disks of an earlier version that are opened.
 #![tactic(auto)]
 
 #[cfg(test)]
@@ -18,6 +18,8 @@ mod faults;
 mod firsts;
 #[cfg(test)]
 mod grown;
+#[cfg(test)]
+mod longs;
 #[cfg(test)]
 mod old_disks;
 #[cfg(test)]

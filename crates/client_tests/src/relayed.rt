@@ -4,6 +4,7 @@ ghost use Rattle.std.specs.Prelude.{◌≡◌, None, IfSome};
 
 use crate::acts::ZEROS;
 use bodies::Format;
+use boxes::TEXT_KIND;
 use client::Begin;
 use dr_base::{Key32, Side};
 use dr_disk::Mode;
@@ -56,7 +57,7 @@ fn says(party: &mut Party<OpenKem>, text: &[u8]) -> bool
     requires { party.old.shut ≡ None }
     ensures { party.new.shut ≡ None }
 {
-    let seed = match party.say_check(text.len()) {
+    let seed = match party.say_check(TEXT_KIND, text) {
         Ok(true) => Some(Key32 { bytes: [9; 32] }),
         Ok(false) => None,
         Err(_) => return false,

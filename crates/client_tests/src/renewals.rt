@@ -16,10 +16,10 @@ use std::test::Fail;
 /// The disk before, and once it was opened.
 const BEFORE: &str = "00fecaffeab362272ff7448702ca9ee90e07e512ce7cb82979fa808a1aa7cff6";
 
-const AFTER: &str = "d697860b52d8cfb7d50f011f35a49d9e7a8c0068a1ead47f3315f3818a8c8436";
+const AFTER: &str = "dc43e55c5f791ded709c4541a47a4e4ac5355c84cdb107d7baf10097476dcd00";
 
 /// The images of all stops, in each mode, one digest after the other.
-const IMAGES: &str = "f3da8a37377b342a03c55af94e3a2aa232b7869d70eea757aa4e46228f1a556a";
+const IMAGES: &str = "5bec0d7911db8b02ac5bdf29c0cafcf6f9d0067e0a8dd14b4f409531ed8bab11";
 
 /// How many writes and syncs an opening makes that replaces a record of which one page changes: its
 /// own sync, and then ten.

@@ -103,7 +103,7 @@ fn is_told(
 }
 
 /// Whether that is so wherever the disk stops, and whatever a crash leaves.
-fn are_told(alloc: Global, row: Row<'_>, boxes: ((u32, u32), (u32, u32))) -> bool {
+pub fn are_told(alloc: Global, row: Row<'_>, boxes: ((u32, u32), (u32, u32))) -> bool {
     for crash in MODES {
         for k in 0u32..12 {
             if !is_told(alloc, row, k, crash, boxes) {

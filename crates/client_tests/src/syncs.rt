@@ -84,10 +84,16 @@ pub fn first(alloc: Global, row: Row<'_>, fails: (&[u64], &[u64])) -> bool {
     }
 }
 
-/// What Second's sync sends before the packet of the text "hi": it fetches, and posts 67 bytes. The
-/// session is that of the key of zeros.
-const POSTS: &[u8] = b"\x00\x24\x02\x2270e0f9cd1a5863238d67aecce0c032e5-2\
-    \x00\x67\x01\x2270e0f9cd1a5863238d67aecce0c032e5-1";
+/// What Second's sync sends before the packet of the text "hi": it fetches, and posts 67 bytes, each
+/// with counter 1. The session is that of the key of zeros. Tags were made by another implementation.
+const POSTS: &[u8] = b"\x00\x4d\x04\x00\x00\x00\x00\x00\x00\x00\x01\
+    \x6d\xc7\xcc\xd3\x33\x23\x3e\xee\x1e\xc1\x03\x50\x5c\xb7\xa4\x2e\
+    \x43\xdf\xe3\x72\x8a\x40\xfb\x3a\x2b\x89\xd9\x78\x4e\x73\xf8\x29\
+    \x02\x2270e0f9cd1a5863238d67aecce0c032e5-2\
+    \x00\x90\x04\x00\x00\x00\x00\x00\x00\x00\x01\
+    \xd3\xdb\x7b\x43\xa9\x2d\x5a\x85\xf0\x78\x60\x26\xbd\x5d\xae\x5e\
+    \x51\x47\x4d\x3d\x6c\x55\x7e\x1c\x24\x6f\xd1\x62\x38\x86\x21\xda\
+    \x01\x2270e0f9cd1a5863238d67aecce0c032e5-1";
 
 /// Second's packet of that text, where its sync that gets these replies comes to this, writes these
 /// lines, and posts the packet.

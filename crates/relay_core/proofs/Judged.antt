@@ -21,6 +21,10 @@ apart box guard (posts packet) = either guard (is_full box) _ _ (stays box_full 
 apart box guard fetches = refl
 apart box guard (acks n) = either guard (has_number n box.packets) _ _ (becomes acked (without_number box n)) (stays (absent n) box) refl refl
 
+-- and leaves the guard
+pub guard_stays : (box : Box) (ask : Asking) → (answer_of box ask).next.guard ≡ box.guard
+guard_stays box ask = ap (λ (a : Answer). a.next.guard) (apart box box.guard ask)
+
 -- it let the request through
 pub record Serves (box : Box) (asked : Asked) (guard : Option Guard) (a : Answer) : Type 0 where
   pub reply : a.reply ≡ (answer_of box asked.ask).reply

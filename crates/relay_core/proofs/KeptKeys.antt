@@ -10,7 +10,7 @@ use Rattle.relay_core.specs.Boxes.{Box, answer_by, answer_in, answer_of, by_verd
 use Rattle.relay_core.specs.declared.spec.BoxKeys.{BoxKeys}
 use Rattle.relay_core.specs.declared.spec.BoxSpec.{BoxSpec}
 use Rattle.relay_core.proofs.Names.{name_stays}
-use Rattle.relay_core.proofs.Unguarded.{guard_stays}
+use Rattle.relay_core.proofs.Judged.{guard_stays}
 use Rattle.relay_wire.specs.Requests.{Asked, plain_body}
 
 counted_keys : (guard : Guard) (role : Role) (counter : ℕ) → keys_of (with_last guard role counter) ≡ keys_of guard

@@ -11,7 +11,6 @@ pub mod RecordLaw
 pub mod Sizes
 pub mod TakenBoxes
 pub mod Judged
-pub mod Unguarded
 pub mod KeptKeys
 pub mod Lawfully
 pub mod Served

@@ -1,5 +1,5 @@
 -- The boxes of a relay, and what they reply.
-use Rattle.std.specs.Prelude.{◌≡◌, ◌<◌, take, slice_get, ℕ, ◌+◌, ◌-◌, ◌^◌, ◌==◌, ◌||◌, not, Bool, true, false, nat_le, List, [], ◌∷◌, ◌++◌, length, filter, All, Option, Some, None, option_map, Result, Ok, Err, if◌then◌else◌}
+use Rattle.std.specs.Prelude.{◌≡◌, ◌<◌, take, slice_get, ℕ, ◌+◌, ◌-◌, ◌^◌, ◌==◌, ◌||◌, not, Bool, true, false, nat_le, List, [], ◌∷◌, ◌++◌, length, filter, Option, Some, None, option_map, Result, Ok, Err, if◌then◌else◌}
 use Rattle.std.specs.List.{list_any}
 use Rattle.std.specs.Str.{bytes_eq}
 use Rattle.relay_core.specs.declared.limits.TheConstants.{BOX_LIMIT}
@@ -174,10 +174,6 @@ answers_read boxes (Err kind) = record { reply = bad kind; next = boxes; changed
 abbrev pub box_of : List ℕ → List Box → Option Box
 box_of name [] = None
 box_of name (box ∷ boxes) = if is_named name box then Some box else box_of name boxes
-
--- no box has a guard
-abbrev pub AreUnguarded : List Box → Type 0
-AreUnguarded boxes = All (λ box. box.guard ≡ None) boxes
 
 -- ---- places
 

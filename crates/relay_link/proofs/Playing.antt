@@ -1,6 +1,6 @@
 -- A sync over a link on which this many replies come is a scene.
 use Rattle.std.proofs.Common.{◌≡◌, ◌⊎◌, inl, inr, ℕ, ◌<◌, ◌≤◌, List, [], ◌∷◌, ◌++◌, length, take, drop, Some, Err, refl, sym, ◌∙◌, ap, subst, arith, append_assoc, append-nil, map}
-use Rattle.std.specs.Prelude.{flat_map}
+use Rattle.std.specs.Prelude.{flat_map, option_map}
 use Rattle.std.specs.List.{AllByRecursion}
 use Rattle.std.proofs.lemmas.List.Concat.{flat_map-append}
 use Rattle.std.proofs.lemmas.List.{length-append, length-map, take-append-drop, take_all}
@@ -15,7 +15,8 @@ use Rattle.relay_core.specs.Streams.{Exchange, Served, served, reply_frame, repl
 use Rattle.relay_core.specs.declared.limits.TheConstants.{EXCHANGE_LIMIT}
 use Rattle.sync_model.specs.Parties.{Party}
 use Rattle.sync_model.specs.Moves.{Ending, Wait, asked_in, over}
-use Rattle.sync_model.specs.Courses.{Course, all_lines, as_list, awaited, course_of, made_requests}
+use Rattle.sync_model.specs.Courses.{Course, asked_now, all_lines, as_list, awaited, course_of, made_requests}
+use Rattle.sync_model.specs.Tokens.{tagged}
 use Rattle.sync_model.specs.Carried.{IsCarried, relay_replies, replied_bytes, request_bytes}
 use Rattle.relay_wire.specs.Framed.{request_frame}
 use Rattle.sync_model.specs.Scenes.{IsDone, IsPlayed, scene}
@@ -62,7 +63,7 @@ module _ {S : Type 0} (p : Party S) (kept : ℕ) (s : S) (boxes : List Box) (rep
         staged p kept s boxes replies played done_so
         ∙ ap (λ (b : List Box). record { course = course; boxes = b }) (sym (is.brought.boxes_are ∙ ap (λ (b : List ℕ). (served boxes b).next) whole))
 
-    module _ (asked : Asked) (waits : asked_in p course.state course.wait ≡ Some asked) where
+    module _ (asked : Asked) (waits : asked_now p course ≡ Some asked) where
       read : (bad : BadReply) → IsFrame rest → read_reply (drop 2 rest) ≡ Err bad → ⊥
       read bad frame reads =
           let exs = (served boxes (request_bytes made)).exchanges in
@@ -95,7 +96,7 @@ module _ {S : Type 0} (p : Party S) (kept : ℕ) (s : S) (boxes : List Box) (rep
 
   -- ---- the link failed
 
-  module _ (asked : Asked) (waits : asked_in p course.state course.wait ≡ Some asked) where
+  module _ (asked : Asked) (waits : asked_now p course ≡ Some asked) where
     made_is : made ≡ done ++ asked ∷ []
     made_is = ap (λ (xs : List Asked). done ++ xs) (ap as_list waits)
 
@@ -166,7 +167,7 @@ module _ {S : Type 0} (p : Party S) (kept : ℕ) (s : S) (boxes : List Box) (rep
   ended now is ending is_over =
       let requests = (course_of p s replies).requests in
       let none : made_requests p (course_of p s replies) ≡ requests =
-      ap (λ (w : Wait). requests ++ as_list (asked_in p (course_of p s replies).state w)) is_over ∙ append-nil requests in
+      ap (λ (w : Wait). requests ++ as_list (option_map (tagged p.keys (course_of p s replies).tokens) (asked_in p (course_of p s replies).state w))) is_over ∙ append-nil requests in
       plays p kept s boxes replies [] [] now is (append-nil (request_bytes requests) ∙ ap request_bytes (sym none)) (inl (ending, is_over))
 
   -- where it has broken off otherwise, what was printed so far begins what the scene prints
@@ -191,16 +192,16 @@ module _ {S : Type 0} (p : Party S) (kept : ℕ) (s : S) (boxes : List Box) (rep
       })
 
   pub broken : (rest put : List ℕ) (now : LinkConnection) → IsSynced p kept s boxes replies rest put now → (asked : Asked)
-      → asked_in p (course_of p s replies).state (course_of p s replies).wait ≡ Some asked → (left : List ℕ) → request_frame asked ≡ put ++ left → 0 < now.faults
+      → asked_now p (course_of p s replies) ≡ Some asked → (left : List ℕ) → request_frame asked ≡ put ++ left → 0 < now.faults
       → scene p kept s boxes ≡ synced p s replies now
   broken rest put now is asked waits left split some = breaks p kept s boxes replies rest put now is asked waits left split some
 
   pub always_read : (rest : List ℕ) (now : LinkConnection) (asked : Asked) → IsSynced p kept s boxes replies rest (request_frame asked) now
-      → asked_in p (course_of p s replies).state (course_of p s replies).wait ≡ Some asked → (bad : BadReply) → IsFrame rest → read_reply (drop 2 rest) ≡ Err bad → ⊥
+      → asked_now p (course_of p s replies) ≡ Some asked → (bad : BadReply) → IsFrame rest → read_reply (drop 2 rest) ≡ Err bad → ⊥
   always_read rest now asked is waits bad frame reads =
       read p kept s boxes replies rest (request_frame asked) now is (all_sent p kept s boxes replies rest (request_frame asked) now is asked waits refl) asked waits bad frame reads
 
   pub never_ends : (rest : List ℕ) (now : LinkConnection) (asked : Asked) → IsSynced p kept s boxes replies rest (request_frame asked) now
-      → asked_in p (course_of p s replies).state (course_of p s replies).wait ≡ Some asked → IsPartial rest → IsAtEnd (connection_wire now) → ⊥
+      → asked_now p (course_of p s replies) ≡ Some asked → IsPartial rest → IsAtEnd (connection_wire now) → ⊥
   never_ends rest now asked is waits partial end =
       goes_on p kept s boxes replies rest (request_frame asked) now is (all_sent p kept s boxes replies rest (request_frame asked) now is asked waits refl) asked waits partial end

@@ -9,8 +9,8 @@ use Rattle.relay_wire.specs.declared.reply.BadReply.{BadReply}
 use Rattle.relay_core.specs.Boxes.{Box}
 use Rattle.relay_core.specs.Lawful.{IsLawfulBox}
 use Rattle.sync_model.specs.Parties.{Party}
-use Rattle.sync_model.specs.Moves.{Ending, asked_in, over}
-use Rattle.sync_model.specs.Courses.{course_of, made_requests}
+use Rattle.sync_model.specs.Moves.{Ending, over}
+use Rattle.sync_model.specs.Courses.{asked_now, course_of, made_requests}
 use Rattle.sync_model.specs.Transfers.{Meeting}
 use Rattle.sync_model.specs.Carried.{replied_bytes, request_bytes}
 use Rattle.relay_wire.specs.Framed.{request_frame}
@@ -39,11 +39,11 @@ pub record IsPlaying (S : Type 0) : Type 0 where
   pub ended : (p : Party S) (kept : ℕ) (s : S) (boxes : List Box) (replies : List Replied) (now : LinkConnection) → IsSynced p kept s boxes replies [] [] now
       → (ending : Ending) → (course_of p s replies).wait ≡ over ending → scene p kept s boxes ≡ synced p s replies now
   pub broken : (p : Party S) (kept : ℕ) (s : S) (boxes : List Box) (replies : List Replied) (rest put : List ℕ) (now : LinkConnection)
-      → IsSynced p kept s boxes replies rest put now → (asked : Asked) → asked_in p (course_of p s replies).state (course_of p s replies).wait ≡ Some asked
+      → IsSynced p kept s boxes replies rest put now → (asked : Asked) → asked_now p (course_of p s replies) ≡ Some asked
       → (left : List ℕ) → request_frame asked ≡ put ++ left → 0 < now.faults → scene p kept s boxes ≡ synced p s replies now
   pub always_read : (p : Party S) (kept : ℕ) (s : S) (boxes : List Box) (replies : List Replied) (rest : List ℕ) (now : LinkConnection) (asked : Asked)
-      → IsSynced p kept s boxes replies rest (request_frame asked) now → asked_in p (course_of p s replies).state (course_of p s replies).wait ≡ Some asked
+      → IsSynced p kept s boxes replies rest (request_frame asked) now → asked_now p (course_of p s replies) ≡ Some asked
       → (bad : BadReply) → IsFrame rest → read_reply (drop 2 rest) ≡ Err bad → ⊥
   pub never_ends : (p : Party S) (kept : ℕ) (s : S) (boxes : List Box) (replies : List Replied) (rest : List ℕ) (now : LinkConnection) (asked : Asked)
-      → IsSynced p kept s boxes replies rest (request_frame asked) now → asked_in p (course_of p s replies).state (course_of p s replies).wait ≡ Some asked
+      → IsSynced p kept s boxes replies rest (request_frame asked) now → asked_now p (course_of p s replies) ≡ Some asked
       → IsPartial rest → IsAtEnd (connection_wire now) → ⊥

@@ -1,8 +1,7 @@
 //! The relay, and what it replied on one connection.
 
 ghost use Rattle.std.specs.Prelude.{◌≡◌, ◌+◌, ◌*◌, ◌≤◌, ◌<◌, [], ◌++◌, length, map, nat_lt, take, IfOk};
-ghost use Rattle.relay_core.specs.Boxes.{AreUnguarded, empty_box};
-ghost use Rattle.relay_core.specs.Specs.{AreBare};
+ghost use Rattle.relay_core.specs.Boxes.{empty_box};
 ghost use Rattle.relay_core.specs.declared.limits.TheConstants.{EXCHANGE_LIMIT};
 ghost use Rattle.relay_link.specs.Desks.{HasAnswered, after_frame, fresh_desk};
 ghost use Rattle.relay_link.specs.declared.limits.TheConstants.{REPLY_LIMIT};
@@ -26,7 +25,6 @@ pub(crate) struct Desk {
 
 impl Model for Desk {
     ghost use Rattle.std.specs.Prelude.{◌≡◌, ◌+◌, ◌*◌, ◌≤◌, length, min, vec_len, vec_capacity};
-    ghost use Rattle.relay_core.specs.Boxes.{AreUnguarded};
     ghost use Rattle.relay_core.specs.declared.limits.TheConstants.{EXCHANGE_LIMIT};
     ghost use Rattle.relay_wire.specs.declared.limits.TheConstants.{FRAME_LIMIT};
     ghost use Rattle.relay_link.specs.Desks.{DeskNow};
@@ -45,15 +43,13 @@ impl Model for Desk {
     ghost invariant = { λ d. (length d.room.items ≡ FRAME_LIMIT) × (d.kept ≤ REPLY_LIMIT)
         × (d.answered + d.left ≤ EXCHANGE_LIMIT)
         × (vec_len d.replies ≤ min d.answered d.kept * FRAME_LIMIT)
-        × (REPLY_LIMIT * FRAME_LIMIT ≤ vec_capacity d.replies)
-        × AreUnguarded d.relay };
+        × (REPLY_LIMIT * FRAME_LIMIT ≤ vec_capacity d.replies) };
 }
 
 impl Desk {
     /// The desk of a relay with empty boxes by these specs, before its first connection's first
     /// frame.
     pub(crate) fn new(alloc: Global, specs: &[BoxSpec]) -> Result<Desk, AllocError>
-        requires { AreBare specs.now }
         ensures { IfOk result
             (λ desk. desk ≡ fresh_desk REPLY_LIMIT (map empty_box specs.now)) }
     {
@@ -78,10 +74,9 @@ impl Desk {
         self.left = EXCHANGE_LIMIT;
     }
 
-    /// The relay, whose boxes have no guard.
+    /// The relay.
     pub(crate) fn relay(&self) -> &Relay
-        ensures boxes { result.now ≡ self.now.boxes }
-        ensures unguarded { AreUnguarded result.now }
+        ensures { result.now ≡ self.now.boxes }
     {
         &self.relay
     }

@@ -2,8 +2,7 @@
 
 ghost use Rattle.std.specs.Prelude.{◌≡◌, ◌↔◌, ◌-◌, ◌≤◌, min, length, map, IfOk, IsErr};
 ghost use Rattle.dr_ports.specs.Calls.{Receives, Sends};
-ghost use Rattle.relay_core.specs.Boxes.{AreUnguarded, empty_box};
-ghost use Rattle.relay_core.specs.Specs.{AreBare};
+ghost use Rattle.relay_core.specs.Boxes.{empty_box};
 ghost use Rattle.relay_link.specs.Connections.{Behind, HasLost, IsLawfulConnection, behind_of, boxes_now, replies_coming, fresh_connection, connection_is_ahead, kept_before, connection_port};
 ghost use Rattle.relay_link.specs.declared.limits.TheConstants.{REPLY_LIMIT, SENT_LIMIT};
 
@@ -60,9 +59,8 @@ fn kept_before(lost: Option<u32>) -> usize
 
 impl RelayLink {
     /// A link to a relay with empty boxes by these specs, on which no reply is lost. A relay has up
-    /// to 16, no two of one name; none has keys, since no sync sends a token yet.
+    /// to 16, no two of one name.
     pub fn new(alloc: Global, specs: &[BoxSpec]) -> Result<RelayLink, AllocError>
-        requires { AreBare specs.now }
         ensures { IfOk result
             (λ link. link ≡ fresh_connection REPLY_LIMIT (map empty_box specs.now)) }
     {
@@ -94,7 +92,6 @@ impl RelayLink {
     /// The relay, with its boxes as they stand.
     pub fn relay(&self) -> &Relay
         ensures boxes { result.now ≡ boxes_now self.now }
-        ensures unguarded { AreUnguarded (boxes_now self.now) }
         ensures lawful { IsLawfulConnection self.now }
     {
         self.desk.relay()

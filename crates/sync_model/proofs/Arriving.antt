@@ -1,18 +1,20 @@
 -- Where a sync ends, over a link that carries a relay's replies.
 use Rattle.std.proofs.Common.{◌≡◌, ◌≢◌, ℕ, zero, suc, ◌≤◌, Bool, true, false, List, [], ◌∷◌, ◌++◌, length, drop, Ok, Some, None, sym, ◌∙◌, ap, subst, arith, append-nil}
-use Rattle.std.specs.Prelude.{All, if◌then◌else◌}
+use Rattle.std.specs.Prelude.{◌+◌, ◌*◌, All, option_map, if◌then◌else◌}
 use Rattle.std.specs.List.{AllByRecursion}
 use Rattle.std.specs.Str.{bytes_eq}
 use Rattle.relay_wire.specs.Requests.{Asked, IsLawfulAsked}
 use Rattle.relay_wire.specs.Replies.{Replied}
 use Rattle.relay_core.specs.Boxes.{Kept, Box, answers_of, box_of, is_named}
+use Rattle.relay_guard.specs.declared.guard.Role.TheVariants.{Owner, Poster}
 use Rattle.relay_core.specs.Lawful.{IsLawfulBox, Rises}
 use Rattle.relay_core.specs.Streams.{served}
 use Rattle.relay_core.proofs.Lawfully.{lawful_next}
 use Rattle.sync_model.specs.Parties.{Party}
 use Rattle.sync_model.specs.Moves.{Wait, Ending, asked_in, ended, over}
 use Rattle.sync_model.specs.Courses.{as_list, course_of, made_requests}
-use Rattle.sync_model.specs.Transfers.{HaveOtherNumbers, CanTransfer, HasRoomForAll, HasRoom, Meeting, StandsAt, begins, emptied, meet_times, with_posts, sent_all, taken_all}
+use Rattle.sync_model.specs.Tokens.{tagged}
+use Rattle.sync_model.specs.Transfers.{HasCounters, HaveOtherNumbers, IsGuardedFor, counted, CanTransfer, HasRoomForAll, HasRoom, Meeting, StandsAt, begins, emptied, meet_times, with_posts, sent_all, taken_all}
 use Rattle.sync_model.specs.Carried.{IsCarried, relay_after, request_bytes}
 use Rattle.sync_model.specs.declared.more.More.TheVariants.{End}
 use Rattle.sync_model.proofs.Carried.{meeting}
@@ -52,20 +54,20 @@ after_lawful boxes (x ∷ xs) are lawful = after_lawful (answers_of boxes x).nex
 pub no_more : {S : Type 0} (p : Party S) (s : S) (replies : List Replied) (ending : Ending) → (course_of p s replies).wait ≡ over ending
     → made_requests p (course_of p s replies) ≡ (course_of p s replies).requests
 no_more p s replies ending is_over =
-    ap (λ (w : Wait). (course_of p s replies).requests ++ as_list (asked_in p (course_of p s replies).state w)) is_over ∙ append-nil (course_of p s replies).requests
+    ap (λ (w : Wait). (course_of p s replies).requests ++ as_list (option_map (tagged p.keys (course_of p s replies).tokens) (asked_in p (course_of p s replies).state w))) is_over ∙ append-nil (course_of p s replies).requests
 
 module _ {S : Type 0} (p : Party S) (s : S) (boxes : List Box) (own peers : Box) where
-  pub can_transfer : bytes_eq p.own p.peers ≡ false → All IsLawfulBox boxes → box_of p.own boxes ≡ Some own → box_of p.peers boxes ≡ Some peers
-      → own.guard ≡ None → peers.guard ≡ None → HasRoom p s own.packets
+  pub can_transfer : bytes_eq p.own p.peers ≡ false → All IsLawfulBox boxes → box_of p.own boxes ≡ Some own → box_of p.peers boxes ≡ Some peers → HasRoom p s own.packets
+      → IsGuardedFor p.keys Owner own.guard → HasCounters Owner (2 * length own.packets + 1) own.guard
       → ((t : S) → p.outbox (p.sent t) ≡ drop 1 (p.outbox t)) → ((t : S) (packet : List ℕ) → p.outbox (p.take t packet).next ≡ p.outbox t) → CanTransfer p s boxes own peers
-  can_transfer apart lawful own_box peers_box own_open peers_open room drops keeps =
+  can_transfer apart lawful own_box peers_box room own_guard own_counters drops keeps =
       let of_own = lawful_named p.own boxes own own_box lawful in
       record {
         apart = apart;
         own_box = own_box;
         peers_box = peers_box;
-        own_open = own_open;
-        peers_open = peers_open;
+        own_guard = own_guard;
+        own_counters = own_counters;
         distinct = distinct zero own.last own.packets of_own.rises;
         few = omega (arith, of_own.count);
         room = room;
@@ -100,17 +102,24 @@ module _ {S : Type 0} (p : Party S) (s : S) (boxes : List Box) (own peers : Box)
     over_there : (meet_times p (length replies) (begins p s boxes)).course.wait ≡ over ending
     over_there = ap (λ (m : Meeting S). m.course.wait) met ∙ is_over
 
+    -- the own box then
+    abbrev pub own_left : Box
+    own_left = counted Owner (2 * length own.packets + 1) (emptied own)
+
+    abbrev pub peers_left : Box
+    peers_left = counted Poster (length (p.outbox s)) (with_posts peers (p.outbox s))
+
     -- all of the own box was taken, and it is empty
-    pub ends_collected : IsPast p (emptied own) final (taken_all p s own.packets)
+    pub ends_collected : IsPast p own_left final (taken_all p s own.packets)
     ends_collected =
         let came = collects p s boxes own peers can in
-        subst (λ (m : Meeting S). IsPast p (emptied own) m (taken_all p s own.packets)) met
-        (past_end p can.apart (emptied own) came.0 (length replies) (begins p s boxes) (taken_all p s own.packets) (p.outbox s) End peers came.1 ending over_there)
+        subst (λ (m : Meeting S). IsPast p own_left m (taken_all p s own.packets)) met
+        (past_end p can.apart own_left came.0 (length replies) (begins p s boxes) (taken_all p s own.packets) (p.outbox s) End peers came.1 ending over_there)
 
     -- and all of the outbox stands in the peer's box
-    pub ends_delivered : HasRoomForAll (p.outbox s) peers
-        → StandsAt p final (sent_all p (length (p.outbox s)) (taken_all p s own.packets)) (over (ended End)) (emptied own) (with_posts peers (p.outbox s))
+    pub ends_delivered : HasRoomForAll p.keys (p.outbox s) peers
+        → StandsAt p final (sent_all p (length (p.outbox s)) (taken_all p s own.packets)) (over (ended End)) own_left peers_left
     ends_delivered fits =
         let came = delivers p s boxes own peers can fits in
-        subst (λ (m : Meeting S). StandsAt p m (sent_all p (length (p.outbox s)) (taken_all p s own.packets)) (over (ended End)) (emptied own) (with_posts peers (p.outbox s)))
+        subst (λ (m : Meeting S). StandsAt p m (sent_all p (length (p.outbox s)) (taken_all p s own.packets)) (over (ended End)) own_left peers_left)
         (same_end p came.0 (length replies) (begins p s boxes) (ended End) ending came.1.waits over_there ∙ met) came.1

@@ -1,6 +1,10 @@
 pub mod Reading
+pub mod Hearing
 pub mod Alike
 pub mod Acknowledging
+pub mod Counting
+pub mod Verdicts
+pub mod Settling
 pub mod Meeting
 pub mod Replying
 pub mod Carried

@@ -1,10 +1,10 @@
 -- A lawful client is lawful after each act that it answers.
 use Rattle.std.proofs.Common.{Bool, Err, List, None, Ok, Option, Result, Some, arith, length, refl, subst, true, ℕ, ◌++◌, ◌<◌, ◌∷◌, ◌≡◌, []}
-use Rattle.std.specs.Prelude.{nat_le, nat_lt}
+use Rattle.std.specs.Prelude.{if◌then◌else◌, nat_le}
 use Rattle.std.proofs.lemmas.Bool.Decides.{nat_tests}
 use Rattle.boxes.specs.Entries.{entry_with}
 use Rattle.cka.specs.Agreement.{agreement_size}
-use Rattle.dr_base.specs.declared.limits.TheConstants.{INBOX_LIMIT, OUTBOX_LIMIT, TEXT_LIMIT}
+use Rattle.dr_base.specs.declared.limits.TheConstants.{INBOX_LIMIT, OUTBOX_LIMIT}
 use Rattle.dr_model.specs.Machines.Acts.{act_on, dropped_client, dropping}
 use Rattle.dr_model.specs.Machines.Steps.{Step, leaving, step}
 use Rattle.kem_laws.specs.Mechanism.{IsLawfulMechanism, Mechanism}
@@ -13,13 +13,15 @@ use Rattle.dr_base.specs.Bytes.{AreBytes}
 use Rattle.packet.specs.Reading.{read_packet}
 use Rattle.packet.specs.declared.fault.Malformed.{Malformed}
 use Rattle.packet.proofs.Read.{read_was_printed}
+use Rattle.session_model.specs.Contents.{Content, content_check}
+use Rattle.session_model.proofs.Checked.{once_passed}
 use Rattle.session_model.specs.Clients.{Client, SaidText, TakenPacket, accept_receive, accept_send, say_check, say_on, take_on, take_read}
-use Rattle.session_model.specs.Saying.{SendDraft, draft_send, phase_check}
+use Rattle.session_model.specs.Saying.{SendDraft, draft_send, phase_check, send_check}
 use Rattle.session_model.specs.Taking.{ReceiveDraft, draft_receive}
 use Rattle.session_model.specs.declared.answer.Answer.TheVariants.{Dropped}
 use Rattle.session_model.specs.Leaving.{drop_check}
 use Rattle.session_model.specs.declared.answer.Refusal.{Refusal}
-use Rattle.session_model.specs.declared.answer.Refusal.TheVariants.{NoPair}
+use Rattle.session_model.specs.declared.answer.Refusal.TheVariants.{NoPair, OutboxFull}
 use Rattle.session_model.specs.declared.answer.Which.{Which}
 use Rattle.session_record.specs.Lawful.{IsLawfulClient, IsLawfulEntry, IsLawfulPost}
 use Rattle.client.proofs.Lawful.Drafts.{send_lawful}
@@ -29,31 +31,35 @@ use Rattle.session_model.proofs.Leaving.{all_packets, all_texts, fewer_packets, 
 use Rattle.session_model.proofs.Passing.{passes}
 use Rattle.client.proofs.Lawful.Ways.{receive_lawful}
 
--- ---- a text is said
+-- ---- a text is said, or a part of a long one
 
-passed_phase : (c : Client) (len : ℕ) (needs : Bool) → say_check c len ≡ Ok needs
+passed_phase : (c : Client) (content : Content) (needs : Bool) → say_check c content ≡ Ok needs
     → phase_check c.state.epoch c.state.phase ≡ Ok needs
-passed_phase c len needs is =
-    let short = passes (nat_lt TEXT_LIMIT len) _ _ needs is in
-    let room = passes (nat_le OUTBOX_LIMIT (length c.outbox)) _ _ needs short.1 in
-    (passes (nat_lt TEXT_LIMIT len) _ _ needs room.1).1
+passed_phase c content needs is =
+    let passed = content_check c.state.format content in
+    let phase = phase_check c.state.epoch c.state.phase in
+    let checked =
+    once_passed passed
+    (if nat_le OUTBOX_LIMIT (length c.outbox) then Err OutboxFull else send_check c.state content) needs is in
+    let room = passes (nat_le OUTBOX_LIMIT (length c.outbox)) OutboxFull (send_check c.state content) needs checked.1 in
+    (once_passed passed phase needs room.1).1
 
 -- with a seed of 32 bytes where the text needs one
-pub say_lawful : (k : Mechanism) (c : Client) (text seed : List ℕ) (needs : Bool) (said : SaidText) → IsLawfulMechanism k
-    → IsLawfulClient k c → say_check c (length text) ≡ Ok needs → (needs ≡ true → length seed ≡ 32)
-    → say_on k c text seed ≡ Ok said → IsLawfulClient k said.next
-say_lawful k c text seed needs said law l checked whole is = by_draft (draft_send k c.state text seed) refl is
+pub say_lawful : (k : Mechanism) (c : Client) (content : Content) (seed : List ℕ) (needs : Bool) (said : SaidText) → IsLawfulMechanism k
+    → IsLawfulClient k c → say_check c content ≡ Ok needs → (needs ≡ true → length seed ≡ 32)
+    → say_on k c content seed ≡ Ok said → IsLawfulClient k said.next
+say_lawful k c content seed needs said law l checked whole is = by_draft (draft_send k c.state content seed) refl is
   where
-    by_draft : (d : Option SendDraft) → draft_send k c.state text seed ≡ d → accept_send c d ≡ Ok said
+    by_draft : (d : Option SendDraft) → draft_send k c.state content seed ≡ d → accept_send c d ≡ Ok said
         → IsLawfulClient k said.next
     by_draft None gives is = absurd (let no : Err NoPair ≡ Ok said = is in cc)
     by_draft (Some draft) gives is =
-        let passed = passed_check c (length text) needs checked in
-        let after = send_lawful k c.state text seed needs draft law l.state whole (passed_phase c (length text) needs checked) gives in
+        let passed = passed_check c content needs checked in
+        let after = send_lawful k c.state content seed needs draft law l.state whole (passed_phase c content needs checked) gives in
         let one : SaidText = record { post = draft.post; next = record c { state = draft.next; outbox = c.outbox ++ draft.post ∷ [] } } in
         let same : one ≡ said = cc in
         subst (λ (s : SaidText). IsLawfulClient k s.next) same
-        (said_lawful k c text seed draft law l after passed.0 passed.1 gives)
+        (said_lawful k c content seed draft law l after passed.0 passed.1 gives)
 
 -- ---- a packet is taken
 
@@ -95,6 +101,7 @@ dropped_lawful k c which l = record {
   few_entries = omega (arith, fewer_texts which c.inbox, l.few_entries);
   outbox = all_packets (IsLawfulPost k c.state) which c.outbox l.outbox;
   few_posts = omega (arith, fewer_packets which c.outbox, l.few_posts);
+  relay = l.relay;
 }
 
 left_lawful : (k : Mechanism) (c : Client) (which : Which) (check : Result Unit Refusal) (made : Step Client)

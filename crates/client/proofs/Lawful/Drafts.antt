@@ -13,6 +13,7 @@ use Rattle.prf_prng.specs.Root.{next_root, root_key}
 use Rattle.prf_prng.proofs.Lengths.{length-next_root}
 use Rattle.ratchet.proofs.Fields.{agreement_later, length-next_chain}
 use Rattle.ratchet.proofs.LawfulTurn.{in_own_phase, in_peers_phase, lawful_on, lawful_turn}
+use Rattle.session_model.specs.Contents.{Content}
 use Rattle.session_model.specs.Awaiting.{waiting_with}
 use Rattle.session_model.specs.LawfulStates.{IsLawfulState}
 use Rattle.session_model.specs.Saying.{SendDraft, body_of, draft_own, draft_phase, draft_send, draft_turn, phase_check}
@@ -93,9 +94,9 @@ phase_lawful k s body seed (in_peers public) needs draft law l held whole checke
     turned_lawful k s body public seed (k.meaning.pair_of seed) draft law l held more (whole (cc asks)) refl gives
 
 -- with a seed of 32 bytes where the text needs one
-pub send_lawful : (k : Mechanism) (s : State) (text seed : List ℕ) (needs : Bool) (draft : SendDraft) → IsLawfulMechanism k
+pub send_lawful : (k : Mechanism) (s : State) (content : Content) (seed : List ℕ) (needs : Bool) (draft : SendDraft) → IsLawfulMechanism k
     → IsLawfulState k s → (needs ≡ true → length seed ≡ 32) → phase_check s.epoch s.phase ≡ Ok needs
-    → draft_send k s text seed ≡ Some draft → IsLawfulState k draft.next
+    → draft_send k s content seed ≡ Some draft → IsLawfulState k draft.next
 unfolding draft_send
-send_lawful k s text seed needs draft law l whole checked gives =
-    phase_lawful k s (body_of s text) seed s.phase needs draft law l refl whole checked gives
+send_lawful k s content seed needs draft law l whole checked gives =
+    phase_lawful k s (body_of s content) seed s.phase needs draft law l refl whole checked gives

@@ -1,5 +1,5 @@
 -- What a side keeps in a lawful world has a record.
-use Rattle.std.proofs.Common.{Bool, List, [], ap, arith, length, map, refl, sym, true, ℕ, ◌-◌, ◌∙◌, ◌∷◌, ◌≡◌, ◌≤◌}
+use Rattle.std.proofs.Common.{Bool, List, [], ap, arith, length, map, refl, sym, true, ℕ, ◌-◌, ◌∙◌, ◌∷◌, ◌≡◌, ◌≤◌, Some, None, false, if◌then◌else◌}
 use Rattle.std.specs.Prelude.{All, filter, not, slice_index_or}
 use Rattle.std.proofs.lemmas.List.Elements.{All-drop, All-filter, All-map, All-weaker, filter_passes}
 use Rattle.cka.specs.Agreement.{agreement_size}
@@ -13,6 +13,8 @@ use Rattle.kem_laws.specs.Mechanism.{IsLawfulMechanism, Mechanism}
 use Rattle.packet.proofs.Known.{text_few}
 use Rattle.packet.proofs.Lengths.{length-packet_of}
 use Rattle.session_model.specs.Sealing.{posted}
+use Rattle.session_model.specs.BoxKeys.{HasLongKeys, relay_keys_of}
+use Rattle.session_model.proofs.KeyBytes.{relay-long}
 use Rattle.session_record.specs.Lawful.{IsLawfulClient, IsLawfulEntry, IsLawfulPost}
 use Rattle.dr_model.specs.Conversations.Conversation.{Conversation, is_said, positions}
 use Rattle.dr_model.specs.Conversations.Lawful.{HasArrived, IsLawfulConversation, IsLawfulView}
@@ -24,7 +26,7 @@ use Rattle.dr_model.specs.Machines.WorldSides.{kept_in}
 use Rattle.dr_model.specs.Machines.Worlds.{World, view_of}
 use Rattle.dr_model.specs.Theorems.LawfulWorlds.{IsLawfulWorld}
 use Rattle.dr_model.proofs.Growth.Growing.{positions-said}
-use Rattle.dr_model.proofs.Taking.PacketFields.{IsLawful-fields, is_place, read-post}
+use Rattle.dr_model.proofs.Taking.PacketFields.{IsLawful-fields, content_said, is_place, read-post}
 use Rattle.dr_model.proofs.Worlds.StateLawful.{lawful_state}
 use Rattle.dr_model.proofs.Worlds.WorldViews.{own_reached, view_lawful}
 use Rattle.client.proofs.Lawful.Saying.{message_fits}
@@ -48,7 +50,7 @@ entry_lawful : (k : Mechanism) (c : Conversation) (v : View) (p : Position) → 
     → IsLawfulEntry (state_of k c v) (entry_at c p)
 entry_lawful k c v p lawful has =
     let place = is_place k c p lawful has.said in
-    record { peers = has.peers; reached = has.reached; from_one = place.one; most = place.few; kind = (lawful.bodies p has.said).kind; short = place.short }
+    record { peers = has.peers; reached = has.reached; from_one = place.one; most = place.few; content = content_said c p place }
 
 entries_lawful : (k : Mechanism) (c : Conversation) (side : Side) (v : View) → IsLawfulConversation k c
     → IsLawfulView k c side v → All (IsLawfulEntry (state_of k c v)) (inbox_of c v)
@@ -100,6 +102,12 @@ posts_lawful k c side v law lawful view =
     (λ i d inside. post_lawful k c side v (slice_index_or (filter own (positions c)) i d) law lawful view
     (said i d inside) (filter_passes own (positions c) i d inside)))
 
+-- ---- the keys of its boxes at a relay
+
+relay_lawful : (key : List ℕ) (keyed : Bool) → HasLongKeys (if keyed then Some (relay_keys_of key) else None)
+relay_lawful key true = relay-long key
+relay_lawful key false = tt
+
 -- ---- all of it
 
 pub lawful_kept : (k : Mechanism) (w : World) (side : Side) → IsLawfulMechanism k → IsLawfulWorld k w
@@ -115,4 +123,5 @@ lawful_kept k w side law lawful =
       few_entries = view.few_texts;
       outbox = posts_lawful k c side v law lawful.conversation view;
       few_posts = view.few_packets;
+      relay = relay_lawful c.key v.keyed;
     }

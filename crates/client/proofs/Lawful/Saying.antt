@@ -1,6 +1,6 @@
--- A lawful client is lawful after a text that it says.
+-- A lawful client is lawful after what it says.
 use Rattle.std.proofs.Common.{Bool, Err, List, None, Ok, Option, Some, [], ap, arith, false, length, refl, subst, sym, true, ℕ, ◌++◌, ◌+◌, ◌<◌, ◌∙◌, ◌∷◌, ◌≡◌, ◌≤◌}
-use Rattle.std.specs.Prelude.{All, if◌then◌else◌, nat_le, nat_lt, option_map}
+use Rattle.std.specs.Prelude.{All, if◌then◌else◌, nat_le, option_map}
 use Rattle.std.proofs.lemmas.Bool.Decides.{nat_tests}
 use Rattle.std.proofs.lemmas.List.{length_push}
 use Rattle.std.proofs.lemmas.List.Elements.{All-push, All-weaker}
@@ -23,12 +23,14 @@ use Rattle.packet.proofs.Known.{text_few}
 use Rattle.packet.proofs.Lengths.{length-packet_of}
 use Rattle.packet.proofs.Printed.{printed_is_read}
 use Rattle.session_model.specs.Clients.{Client, say_check}
+use Rattle.session_model.specs.Contents.{Content, content_check}
+use Rattle.session_model.proofs.Checked.{content_short, once_passed}
 use Rattle.session_model.specs.LawfulStates.{IsLawfulPhase, IsLawfulPrevious, IsLawfulState}
 use Rattle.session_model.specs.Saying.{SendDraft, body_of, draft_own, draft_phase, draft_send, draft_turn, send_check}
 use Rattle.session_model.proofs.Sealed.{HasFewListed, few_listed, known_version, sealed_fits}
 use Rattle.session_model.specs.Sealing.{posted, sealing}
 use Rattle.session_model.specs.States.{Own, Phase, State, in_own, in_peers}
-use Rattle.session_model.specs.declared.answer.Refusal.TheVariants.{OutboxFull, TextTooLong}
+use Rattle.session_model.specs.declared.answer.Refusal.TheVariants.{OutboxFull}
 use Rattle.session_record.specs.Lawful.{IsLawfulClient, IsLawfulEntry, IsLawfulPost}
 use Rattle.session_record.specs.Record.{client_of}
 
@@ -48,8 +50,7 @@ entries_stay s next inbox on each =
       reached = omega (arith, l.reached, on.grows);
       from_one = l.from_one;
       most = l.most;
-      kind = l.kind;
-      short = l.short;
+      content = l.content;
     }) inbox each
 
 pub posts_stay : (k : Mechanism) (s next : State) (outbox : List Post) → GoesOn s next → All (IsLawfulPost k s) outbox
@@ -169,15 +170,15 @@ phase_said k s body seed (in_peers public) draft law l held after may gives =
 
 -- ---- the client
 
-pub said_lawful : (k : Mechanism) (c : Client) (text seed : List ℕ) (draft : SendDraft) → IsLawfulMechanism k
-    → IsLawfulClient k c → IsLawfulState k draft.next → length text ≤ TEXT_LIMIT → length c.outbox < OUTBOX_LIMIT
-    → draft_send k c.state text seed ≡ Some draft
-    → IsLawfulClient k (client_of draft.next c.inbox (c.outbox ++ draft.post ∷ []))
+pub said_lawful : (k : Mechanism) (c : Client) (content : Content) (seed : List ℕ) (draft : SendDraft) → IsLawfulMechanism k
+    → IsLawfulClient k c → IsLawfulState k draft.next → length content.bytes ≤ TEXT_LIMIT → length c.outbox < OUTBOX_LIMIT
+    → draft_send k c.state content seed ≡ Some draft
+    → IsLawfulClient k (client_of draft.next c.inbox (c.outbox ++ draft.post ∷ []) c.relay)
 unfolding draft_send
-said_lawful k c text seed draft law l after short room gives =
+said_lawful k c content seed draft law l after short room gives =
     let s = c.state in
-    let may : MaySeal (body_of s text) = record { short = short; listed = few_listed s.format s } in
-    let said = phase_said k s (body_of s text) seed s.phase draft law l.state refl after may gives in
+    let may : MaySeal (body_of s content) = record { short = short; listed = few_listed s.format s } in
+    let said = phase_said k s (body_of s content) seed s.phase draft law l.state refl after may gives in
     record {
       state = after;
       keys_long = subst (All (λ kept. length kept.key.bytes ≡ 32)) (sym said.kept) l.keys_long;
@@ -186,16 +187,19 @@ said_lawful k c text seed draft law l after short room gives =
       outbox = All-push (IsLawfulPost k draft.next) c.outbox draft.post
           (posts_stay k c.state draft.next c.outbox said.on l.outbox) said.post;
       few_posts = omega (arith, room, length_push c.outbox draft.post);
+      relay = l.relay;
     }
 
--- a text that passed the check is short, and the outbox has room for its packet
-pub passed_check : (c : Client) (len : ℕ) (needs : Bool) → say_check c len ≡ Ok needs
-    → (len ≤ TEXT_LIMIT) × (length c.outbox < OUTBOX_LIMIT)
-passed_check c len needs is = by_tests (nat_lt TEXT_LIMIT len) refl (nat_le OUTBOX_LIMIT (length c.outbox)) refl is
+-- what passed the check is short, and the outbox has room for its packet
+pub passed_check : (c : Client) (content : Content) (needs : Bool) → say_check c content ≡ Ok needs
+    → (length content.bytes ≤ TEXT_LIMIT) × (length c.outbox < OUTBOX_LIMIT)
+passed_check c content needs is =
+    let passed =
+    once_passed (content_check c.state.format content)
+    (if nat_le OUTBOX_LIMIT (length c.outbox) then Err OutboxFull else send_check c.state content) needs is in
+    (content_short c.state.format content passed.0, by_room (nat_le OUTBOX_LIMIT (length c.outbox)) refl passed.1)
   where
-    by_tests : (a : Bool) → nat_lt TEXT_LIMIT len ≡ a → (b : Bool) → nat_le OUTBOX_LIMIT (length c.outbox) ≡ b
-        → (if a then Err (TextTooLong len) else (if b then Err OutboxFull else send_check c.state len)) ≡ Ok needs
-        → (len ≤ TEXT_LIMIT) × (length c.outbox < OUTBOX_LIMIT)
-    by_tests true long b full is = absurd (cc is)
-    by_tests false long true full is = absurd (cc is)
-    by_tests false long false full is = (grind (arith, nat_tests), grind (arith, nat_tests))
+    by_room : (full : Bool) → nat_le OUTBOX_LIMIT (length c.outbox) ≡ full
+        → (if full then Err OutboxFull else send_check c.state content) ≡ Ok needs → length c.outbox < OUTBOX_LIMIT
+    by_room true full is = absurd (cc is)
+    by_room false full is = grind (arith, nat_tests)

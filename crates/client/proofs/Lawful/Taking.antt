@@ -5,7 +5,7 @@ use Rattle.std.specs.Prelude.{All, if◌then◌else◌, nat_eq, nat_le, nat_lt, 
 use Rattle.std.proofs.lemmas.Bool.Decides.{nat_tests}
 use Rattle.std.proofs.lemmas.List.{length_push}
 use Rattle.std.proofs.lemmas.List.Elements.{All-append, All-filter, All-nil, All-push}
-use Rattle.boxes.specs.declared.kinds.TheConstants.{TEXT_KIND}
+use Rattle.boxes.specs.Parts.{is_content}
 use Rattle.boxes.specs.Entries.{entry_with}
 use Rattle.cka.specs.Agreement.{agreement_size}
 use Rattle.dr_base.specs.Position.{is_own}
@@ -13,7 +13,7 @@ use Rattle.dr_base.specs.declared.key.Kept.{Kept}
 use Rattle.dr_base.specs.declared.limits.TheConstants.{INBOX_LIMIT, KEPT_LIMIT, PLAIN, TEXT_LIMIT}
 use Rattle.dr_base.specs.declared.position.Position.{Position}
 use Rattle.dr_base.specs.declared.position.Side.{Side}
-use Rattle.bodies.proofs.Opened.{opened-kind}
+use Rattle.bodies.proofs.Opened.{opened-content}
 use Rattle.bodies.proofs.Short.{opened_short}
 use Rattle.etm_aead.specs.Undoing.{length-ciphertext_of}
 use Rattle.fs_aead.specs.Chain.{chain_message_key, chain_of, message_key}
@@ -166,7 +166,7 @@ taken_way k s f way long is =
 record IsTakenOf (s : State) (f : Fields) (draft : ReceiveDraft) : Type 0 where
   peers : IsPeers s f draft.next
   place : draft.position ≡ position_of f
-  kind : draft.kind ≡ TEXT_KIND
+  content : length draft.text ≤ TEXT_LIMIT → is_content draft.kind draft.text ≡ true
   short : (f.version ≡ PLAIN → length f.ciphertext ≤ TEXT_LIMIT) → length draft.text ≤ TEXT_LIMIT
 
 opened_on : (s : State) (f : Fields) (way : Way) (draft : ReceiveDraft) → IsPeers s f way.next
@@ -185,7 +185,7 @@ opened_on s f way draft peers is =
         peers = peers.peers;
       };
       place = refl;
-      kind = opened-kind f.version _ _ o.body o.opens;
+      content = opened-content f.version _ _ o.body o.opens;
       short = λ plain. opened_short f.version _ _ o.body o.opens
           (λ version. omega (arith, plain version, length-ciphertext_of way.key f.ciphertext));
     })
@@ -209,14 +209,13 @@ entry_lawful k s f draft packet o =
       reached = omega (arith, epoch, o.peers.taken.reached);
       from_one = omega (arith, index, packet.index_from_one);
       most = omega (arith, index, packet.index_fits);
-      kind = o.kind;
-      short = o.short (plain_few f.version (length f.ciphertext) packet.text_fits);
+      content = o.content (o.short (plain_few f.version (length f.ciphertext) packet.text_fits));
     }
 
 pub taken_lawful : (k : Mechanism) (c : Client) (f : Fields) (draft : ReceiveDraft) → IsLawful (agreement_size k) f
     → IsLawfulClient k c → IsLawfulState k draft.next → length c.inbox < INBOX_LIMIT
     → draft_receive k c.state f ≡ Ok draft
-    → IsLawfulClient k (client_of draft.next (c.inbox ++ entry_with draft.position draft.kind draft.text ∷ []) c.outbox)
+    → IsLawfulClient k (client_of draft.next (c.inbox ++ entry_with draft.position draft.kind draft.text ∷ []) c.outbox c.relay)
 unfolding draft_receive
 taken_lawful k c f draft packet l after room gives =
     let o = opened_way k c.state f (way_of k c.state f) draft l.keys_long refl gives in
@@ -229,4 +228,5 @@ taken_lawful k c f draft packet l after room gives =
       few_entries = omega (arith, room, length_push c.inbox item);
       outbox = posts_stay k c.state draft.next c.outbox o.peers.taken.on l.outbox;
       few_posts = l.few_posts;
+      relay = l.relay;
     }

@@ -1,5 +1,5 @@
 -- What a sync opens, in a world that the client stands for.
-use Rattle.std.proofs.Common.{Bool, Err, List, Ok, Result, [], ap, false, inl, inr, refl, subst, sym, true, zero, suc, ℕ, ◌++◌, ◌+◌, ◌∙◌, ◌∷◌, ◌≡◌, ◌⊎◌}
+use Rattle.std.proofs.Common.{Bool, Err, List, Ok, Option, Result, [], ap, false, inl, inr, refl, subst, sym, true, zero, suc, ℕ, ◌++◌, ◌+◌, ◌∙◌, ◌∷◌, ◌≡◌, ◌⊎◌}
 use Rattle.std.specs.Prelude.{if◌then◌else◌, length, map}
 use Rattle.dr_model.proofs.Growth.SaidStays.{with_view_leaves}
 use Rattle.dr_base.specs.declared.position.Position.{Position}
@@ -26,10 +26,12 @@ use Rattle.session_model.specs.declared.answer.Refusal.{Refusal}
 use Rattle.session_model.specs.declared.answer.Refusal.TheVariants.{Spent}
 use Rattle.session_model.specs.declared.answer.Which.TheVariants.{Oldest}
 use Rattle.sync_model.specs.Parties.{Party}
+use Rattle.sync_model.specs.Tokens.{SyncKeys}
 use Rattle.sync_model.specs.Transfers.{HasRoom, sent_all, taken_all}
 use Rattle.client.specs.Grounds.{Grounds}
 use Rattle.client.specs.Syncing.Arrivals.{AreExpected, IsExpected, OpensArrived, opened_too}
 use Rattle.client.specs.Syncing.InWorlds.{IsKeptIn}
+use Rattle.client.specs.Syncing.Keys.{keys_in}
 use Rattle.client.specs.Syncing.Lines.{own_box, peers_box}
 use Rattle.client.specs.Syncing.Parties.{client_party, is_inbox_full, oldest_sent, party_of}
 use Rattle.client.specs.Syncing.Transfers.{Transfers}
@@ -114,9 +116,9 @@ record Behind (k : Mechanism) (side : Side) (w : World) (ps : List Position) (ke
   conversation : later.conversation ≡ w.conversation
   arrived : (view_of later side).arrived ≡ opened_too (view_of w side).arrived ps
 
-module _ (k : Mechanism) (grounds : Grounds k) (prefix own_name peers_name : List ℕ) (side : Side) where
+module _ (k : Mechanism) (grounds : Grounds k) (prefix own_name peers_name : List ℕ) (keys : Option SyncKeys) (side : Side) where
   abbrev p : Party Client
-  p = party_of k prefix own_name peers_name
+  p = party_of k prefix own_name peers_name keys
 
   taken_behind : (ps : List Position) (ks : List Kept) (w : World) (kept : Client) → IsKeptIn k side kept w
       → map (λ (x : Kept). x.packet) ks ≡ map (λ (q : Position). (post_at k w.conversation q).packet) ps → AreExpected k w side ps
@@ -160,9 +162,9 @@ module _ (k : Mechanism) (grounds : Grounds k) (prefix own_name peers_name : Lis
 pub opens : (k : Mechanism) → Grounds k → (prefix : List ℕ) (first : Client) (replies : List Replied)
     → Transfers (client_party k prefix first) first replies → OpensArrived k prefix first replies
 opens k grounds prefix first replies transfers = λ w side is boxes own peers has carried past ps holds expected.
-    let taken = taken_behind k grounds prefix (own_box first) (peers_box first) side ps own.packets w first is holds expected in
+    let taken = taken_behind k grounds prefix (own_box first) (peers_box first) (keys_in first) side ps own.packets w first is holds expected in
     let collected = (transfers boxes own peers has taken.1 carried past).0 in
-    let behind = sent_behind k grounds prefix (own_box first) (peers_box first) side collected.count w ps (taken_all (client_party k prefix first) first own.packets) taken.0 in (
+    let behind = sent_behind k grounds prefix (own_box first) (peers_box first) (keys_in first) side collected.count w ps (taken_all (client_party k prefix first) first own.packets) taken.0 in (
       collected,
       record {
         later = behind.later;

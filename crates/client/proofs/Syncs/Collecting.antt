@@ -1,5 +1,5 @@
 -- A packet is taken, and the oldest one posted.
-use Rattle.std.proofs.Common.{Bool, Err, List, Ok, Result, [], ap, false, refl, subst, sym, true, ℕ, ◌∷◌, ◌≡◌}
+use Rattle.std.proofs.Common.{Bool, Err, List, Ok, Option, Result, [], ap, false, refl, subst, sym, true, ℕ, ◌∷◌, ◌≡◌}
 use Rattle.std.specs.Prelude.{if◌then◌else◌}
 use Rattle.dr_disk.specs.declared.call.Call.{Call}
 use Rattle.dr_model.specs.Machines.Acts.{taken_by}
@@ -13,10 +13,11 @@ use Rattle.session_model.specs.declared.answer.Refusal.{Refusal}
 use Rattle.session_model.specs.declared.answer.Refusal.TheVariants.{InboxFull}
 use Rattle.sync_model.specs.Moves.{Move, acking, fetching, inbox_full, move, over}
 use Rattle.sync_model.specs.Parties.{taking as takes}
+use Rattle.sync_model.specs.Tokens.{SyncKeys}
 use Rattle.client.specs.Syncing.Lines.{answer_line}
 use Rattle.client.specs.Syncing.Moments.{BrokenOff, IsAnswerWritten, Moment, Moved, had_no_room, was_cut, was_written}
 use Rattle.client.specs.Syncing.Parties.{is_inbox_full, is_no_room, party_of, taken_step}
-use Rattle.client.specs.Syncing.Rounds.{MovesTo, goes_on, stops}
+use Rattle.client.specs.Syncing.Rounds.{MovesTo, round_turn, stops}
 use Rattle.client.specs.declared.syncing.faults.SyncFault.{SyncFault}
 use Rattle.client.specs.declared.syncing.faults.SyncFault.TheVariants.{Refused, Store}
 use Rattle.client.specs.declared.syncing.faults.SyncRefusal.TheVariants.{InboxFull as HasNoRoom}
@@ -31,12 +32,12 @@ pub not_full : (answer : Answer) → ((r : Refusal) → answer ≡ AnswersRefuse
 not_full (AnswersRefused r) not = absurd (not r refl)
 not_full _ not = refl
 
-module _ (k : Mechanism) (prefix own peers : List ℕ) (s : Client) (n number : ℕ) (packet : List ℕ) where
+module _ (k : Mechanism) (prefix own peers : List ℕ) (keys : Option SyncKeys) (s : Client) (n number : ℕ) (packet : List ℕ) where
   abbrev made : Step Client
   made = taken_step k s packet
 
   abbrev took : Move Client
-  took = move (party_of k prefix own peers) s (fetching n) (item number packet)
+  took = move (party_of k prefix own peers keys) s (fetching n) (item number packet)
 
   -- without room nothing changes
   no_room_stays : (r : Result TakenPacket Refusal) → is_inbox_full (settled s (taken_by r)).answer ≡ true → (settled s (taken_by r)).next ≡ s
@@ -71,8 +72,7 @@ module _ (k : Mechanism) (prefix own peers : List ℕ) (s : Client) (n number : 
 
     -- the answer that was shown is the step's
     abbrev stopping : Result Unit SyncFault → Type 0
-    stopping (Ok u) = MovesTo took a b (goes_on (acking n number))
-    stopping (Err fault) = MovesTo took a b (stops fault)
+    stopping result = MovesTo took a b (round_turn (acking n number) result)
 
     shown : Moved made.next a b → (result : Result Unit SyncFault)
         → IsAnswerWritten (answer_line prefix made.answer) (is_inbox_full made.answer) a.sink b.sink result → stopping result

@@ -1,11 +1,14 @@
--- A course after a beginning of the replies, and one reply later.
-use Rattle.std.proofs.Common.{List, Some, [], ap, ap₂, refl, sym, ◌++◌, ◌∙◌, ◌∷◌, ◌≡◌, ◌≢◌}
+-- A course after a beginning of the replies, and the request that is waited for then.
+use Rattle.std.proofs.Common.{List, None, Option, Some, [], ap, ap₂, refl, sym, ℕ, ◌++◌, ◌∙◌, ◌∷◌, ◌≡◌, ◌≢◌}
+use Rattle.std.specs.Prelude.{option_map}
+use Rattle.relay_core.specs.Boxes.{role_of}
+use Rattle.relay_guard.specs.declared.guard.Role.TheVariants.{Poster}
 use Rattle.relay_wire.specs.Replies.{Replied}
-use Rattle.relay_wire.specs.Requests.{Asked}
-use Rattle.sync_model.specs.Courses.{Course, as_list, course_from, course_of, read_one, begun}
-use Rattle.sync_model.specs.Moves.{Move, Wait, asked_in, move}
+use Rattle.relay_wire.specs.Requests.{Asked, acks, bare_request, fetches, posts}
+use Rattle.sync_model.specs.Courses.{Course, asked_now, course_from, course_of, read_one}
+use Rattle.sync_model.specs.Moves.{Wait, acking, asked_in, fetching, over, posting, posting_of, role_in}
 use Rattle.sync_model.specs.Parties.{Party}
-use Rattle.sync_model.proofs.Reading.{read_last}
+use Rattle.sync_model.specs.Tokens.{Tokens, tagged}
 
 -- ---- beginnings
 
@@ -38,33 +41,26 @@ before_last {X = X} (x ∷ front) back (y ∷ before) last is some =
     let found = before_last front back before last tail some in
     record { rest = found.rest; split = ap₂ (λ (z : X) (zs : List X). z ∷ zs) head found.split; behind = found.behind }
 
--- ---- one reply later
+-- ---- the request that is waited for
 
--- where the course stands after one more reply, by the move that the reply makes
-pub record IsAfter {S : Type 0} (p : Party S) (first : S) (replies : List Replied) (reply : Replied) (asked : Asked) (m : Move S) : Type 0 where
-  pub state : (course_of p first (replies ++ reply ∷ [])).state ≡ m.state
-  pub wait : (course_of p first (replies ++ reply ∷ [])).wait ≡ m.wait
-  pub lines : (course_of p first (replies ++ reply ∷ [])).lines ≡ (course_of p first replies).lines ++ m.lines
-  pub requests : (course_of p first (replies ++ reply ∷ [])).requests ≡ (course_of p first replies).requests ++ asked ∷ []
+-- its token is of the role that the sync waits in
+some_role : (x asked : Asked) → Some x ≡ Some asked → role_of asked.ask ≡ role_of x.ask
+some_role x asked is = let same : asked ≡ x = cc in ap (λ (y : Asked). role_of y.ask) same
 
-module _ {S : Type 0} (p : Party S) (first : S) (replies : List Replied) (reply : Replied) (asked : Asked) (s : S) (wait : Wait)
-    (keeps : s ≡ (course_of p first replies).state) (waits : (course_of p first replies).wait ≡ wait) (asks : asked_in p s wait ≡ Some asked) where
-  abbrev before : Course S
-  before = course_of p first replies
+posts_role : (name : List ℕ) (packets : List (List ℕ)) (asked : Asked) → posting_of name packets ≡ Some asked → role_of asked.ask ≡ Poster
+posts_role name [] asked is = absurd (let e : None ≡ Some asked = is in cc)
+posts_role name (packet ∷ packets) asked is = some_role (bare_request name (posts packet)) asked is
 
-  last : course_of p first (replies ++ reply ∷ []) ≡ read_one p before reply
-  last = read_last p replies reply (begun p first)
+pub asks_role : {S : Type 0} (p : Party S) (s : S) (wait : Wait) (asked : Asked) → asked_in p s wait ≡ Some asked
+    → role_of asked.ask ≡ role_in wait
+asks_role p s (fetching n) asked is = some_role (bare_request p.own fetches) asked is
+asks_role p s (acking n number) asked is = some_role (bare_request p.own (acks number)) asked is
+asks_role p s (posting which) asked is = posts_role p.peers (p.outbox s) asked is
+asks_role p s (over ending) asked is = absurd (let e : None ≡ Some asked = is in cc)
 
-  moves : move p before.state before.wait reply ≡ move p s wait reply
-  moves = ap₂ (λ (t : S) (w : Wait). move p t w reply) (sym keeps) waits
-
-  asked_is : as_list (asked_in p before.state before.wait) ≡ asked ∷ []
-  asked_is = ap as_list (ap₂ (asked_in p) (sym keeps) waits ∙ asks)
-
-  pub after : IsAfter p first replies reply asked (move p s wait reply)
-  after = record {
-    state = ap (λ (c : Course S). c.state) last ∙ ap (λ (m : Move S). m.state) moves;
-    wait = ap (λ (c : Course S). c.wait) last ∙ ap (λ (m : Move S). m.wait) moves;
-    lines = ap (λ (c : Course S). c.lines) last ∙ ap (λ (m : Move S). before.lines ++ m.lines) moves;
-    requests = ap (λ (c : Course S). c.requests) last ∙ ap (λ (xs : List Asked). before.requests ++ xs) asked_is;
-  }
+-- behind these replies
+pub asks_still : {S : Type 0} (p : Party S) (first : S) (replies : List Replied) (s : S) (wait : Wait) (tokens : Tokens) (asked : Asked)
+    → s ≡ (course_of p first replies).state → (course_of p first replies).wait ≡ wait → (course_of p first replies).tokens ≡ tokens
+    → asked_in p s wait ≡ Some asked → asked_now p (course_of p first replies) ≡ Some (tagged p.keys tokens asked)
+asks_still p first replies s wait tokens asked keeps waits counts asks =
+    ap₂ (λ (t : Tokens) (o : Option Asked). option_map (tagged p.keys t) o) counts (ap₂ (asked_in p) (sym keeps) waits ∙ asks)

@@ -1,5 +1,5 @@
 -- A sync goes on by one round, or ends with it.
-use Rattle.std.proofs.Common.{List, None, Option, Some, [], ap, length, refl, subst, sym, ℕ, ⊎_elim, ◌+◌, ◌++◌, ◌∙◌, ◌∷◌, ◌≡◌, append_assoc, append-nil}
+use Rattle.std.proofs.Common.{Bool, List, None, Option, Some, [], ap, length, refl, subst, sym, ℕ, ⊎_elim, ◌+◌, ◌++◌, ◌∙◌, ◌∷◌, ◌≡◌, append_assoc, append-nil}
 use Rattle.std.proofs.lemmas.List.{length_push}
 use Rattle.dr_ports.proofs.Told.{appended-appended}
 use Rattle.dr_base.specs.Causes.{Rose}
@@ -8,10 +8,10 @@ use Rattle.dr_disk.specs.State.{DiskState}
 use Rattle.dr_disk.proofs.Steps.{quiet_twice, spans, stays, widen}
 use Rattle.dr_ports.specs.Ports.{appended}
 use Rattle.dr_ports.specs.Wires.{Port}
-use Rattle.relay_pipe.specs.Asking.{IsReplied}
 use Rattle.relay_wire.specs.Framed.{request_frame, reply_text}
 use Rattle.relay_pipe.specs.Exchanging.{Exchanges}
 use Rattle.relay_pipe.proofs.Exchanged.{both, nothing_yet}
+use Rattle.relay_guard.specs.declared.guard.Role.{Role}
 use Rattle.relay_wire.specs.Replies.{Replied}
 use Rattle.relay_wire.specs.Requests.{Asked}
 use Rattle.session_model.specs.Clients.{Client}
@@ -20,15 +20,18 @@ use Rattle.slot_store.specs.Store.{KeepsOutsideArea}
 use Rattle.slot_store.proofs.Outside.{twice_outside}
 use Rattle.sync_model.specs.Carried.{replied_bytes, request_bytes}
 use Rattle.sync_model.specs.Courses.{course_of}
-use Rattle.sync_model.specs.Moves.{Move, Wait, asked_in, fetching, move}
+use Rattle.sync_model.specs.Moves.{Move, Wait, asked_in, fetching, role_in}
 use Rattle.sync_model.specs.Parties.{Party}
+use Rattle.sync_model.specs.Tokens.{Tokens, first_tokens, is_repeated, tagged, tokens_by}
+use Rattle.sync_model.proofs.Hearing.{IsAfter, after}
 use Rattle.sync_model.proofs.Reading.{bytes_last, lawful_last}
 use Rattle.client.specs.Clients.{IsReady, client_area}
 use Rattle.client.specs.Cells.{IsOldOrNewInCell, client_cell}
 use Rattle.client.specs.Outcomes.{IsReplacing}
 use Rattle.client.specs.Syncing.Moments.{Moment, Moved, Wrote, WroteBeginning}
 use Rattle.client.specs.Syncing.SoFar.{IsReached, Passed, SoFar, Stands, Talked}
-use Rattle.client.proofs.Syncs.Courses.{IsAfter, after}
+use Rattle.client.specs.Syncing.Rounds.{IsHeard, heard_as}
+use Rattle.client.proofs.Syncs.Courses.{asks_role}
 use Rattle.client.proofs.Syncs.Moving.{wrote_nothing}
 
 -- ---- bytes written, one piece after another
@@ -59,11 +62,12 @@ wrote_beginning x y z a b c one two = record {
 module _ (p : Party Client) where
   -- ---- before the first reply
 
-  unfoldable pub begins : (a : Moment) (start : Port) → a.client.closed ≡ None → IsReady a.client.kept a.client.store a.disk → SoFar p a a start start (fetching 0)
+  unfoldable pub begins : (a : Moment) (start : Port) → a.client.closed ≡ None → IsReady a.client.kept a.client.store a.disk → SoFar p a a start start (fetching 0) first_tokens
   begins a start is_open ready = record {
     replies = [];
     lawful = tt;
     waits = refl;
+    counts = refl;
     stands = record { keeps = refl; is_open = is_open; ready = ready; quiet = λ call. refl; fate = λ all. all };
     talked = record { told = nothing_yet start; waited = refl; quiet = refl };
     wrote = wrote_nothing a a refl refl;
@@ -79,7 +83,7 @@ module _ (p : Party Client) where
       (λ (r : IsReached p first replies start keeps.0). (r.outside.0, r.outside.1, twice_outside client_area r.outside.0 keeps.0 c r.outside.2 keeps.2))
       (passed.last keeps.0 keeps.1)
 
-  module _ (a b : Moment) (start mid : Port) (wait : Wait) (far : SoFar p a b start mid wait) where
+  module _ (a b : Moment) (start mid : Port) (wait : Wait) (tokens : Tokens) (far : SoFar p a b start mid wait tokens) where
     abbrev pub first : Client
     first = a.client.kept
 
@@ -102,46 +106,55 @@ module _ (p : Party Client) where
         (λ d s. record { front = far.replies; back = []; split = sym (append-nil far.replies); holds = ⊎_elim (λ o. o) (λ n. n) s.either ∙ ap (λ (x : Client). Some (record_text x)) far.stands.keeps; undamaged = s.undamaged; outside = outside_since a.disk b.disk first far.replies d far.passed s.frame })
         replacing)
 
-    module _ (c : Moment) (now : Port) (asked : Asked) (asks : asked_in p b.client.kept wait ≡ Some asked) where
-      abbrev pub at : Replied → Move Client
-      at reply = move p b.client.kept wait reply
+    module _ (c : Moment) (now : Port) (new : Tokens) (asked : Asked) (asks : asked_in p b.client.kept wait ≡ Some asked) where
+      abbrev pub at : Replied → Bool → Move Client
+      at reply again = heard_as p b.client.kept wait reply again
 
-      pub then : (reply : Replied) → IsAfter p first far.replies reply asked (at reply)
-      then reply = after p first far.replies reply asked b.client.kept wait far.stands.keeps far.waits asks
+      abbrev pub Hears : Replied → Bool → Type 0
+      Hears reply again = IsHeard p.keys tokens new asked mid now reply again
+
+      pub then : (reply : Replied) (again : Bool) → is_repeated p.keys tokens reply ≡ again
+          → IsAfter p first far.replies reply (tagged p.keys tokens asked) (at reply again) (tokens_by (role_in wait) tokens reply again)
+      then reply again repeats = after p first far.replies reply asked b.client.kept wait tokens far.stands.keeps far.waits far.counts asks again repeats
 
       -- ---- a reply was read
 
-      pub talked_more : (reply : Replied) → IsReplied asked reply mid now → Talked p first (far.replies ++ reply ∷ []) start now
-      talked_more reply replied = record {
+      pub talked_more : (reply : Replied) (again : Bool) → Hears reply again → Talked p first (far.replies ++ reply ∷ []) start now
+      talked_more reply again is = record {
         told = subst (λ (g : List ℕ). Exchanges g (request_bytes (course_of p first (far.replies ++ reply ∷ [])).requests) start now) (sym (bytes_last reply_text far.replies reply))
             (subst (λ (q : List ℕ). Exchanges (replied_bytes far.replies ++ reply_text reply) q start now)
-            (sym (ap request_bytes (then reply).requests ∙ bytes_last request_frame (course_of p first far.replies).requests asked))
-            (both (replied_bytes far.replies) (reply_text reply) (request_bytes (course_of p first far.replies).requests) (request_frame asked) start mid now far.talked.told replied.told));
-        waited = ap length (then reply).requests ∙ length_push (course_of p first far.replies).requests asked ∙ ap (λ (n : ℕ). n + 1) far.talked.waited ∙ sym (length_push far.replies reply);
-        quiet = replied.quiet ∙ far.talked.quiet;
+            (sym (ap request_bytes (then reply again is.repeats).requests ∙ bytes_last request_frame (course_of p first far.replies).requests (tagged p.keys tokens asked)))
+            (both (replied_bytes far.replies) (reply_text reply) (request_bytes (course_of p first far.replies).requests) (request_frame (tagged p.keys tokens asked)) start mid now
+            far.talked.told is.replied.told));
+        waited = ap length (then reply again is.repeats).requests ∙ length_push (course_of p first far.replies).requests (tagged p.keys tokens asked)
+            ∙ ap (λ (n : ℕ). n + 1) far.talked.waited ∙ sym (length_push far.replies reply);
+        quiet = is.replied.quiet ∙ far.talked.quiet;
       }
 
-      pub stands_more : (reply : Replied) → Moved (at reply).state b c → Stands p (far.replies ++ reply ∷ []) a c
-      stands_more reply moved = record {
-        keeps = moved.keeps ∙ sym (then reply).state;
+      pub stands_more : (reply : Replied) (again : Bool) → Hears reply again → Moved (at reply again).state b c → Stands p (far.replies ++ reply ∷ []) a c
+      stands_more reply again is moved = record {
+        keeps = moved.keeps ∙ sym (then reply again is.repeats).state;
         is_open = moved.is_open;
         ready = moved.ready;
         quiet = quiet_twice a.disk b.disk c.disk far.stands.quiet moved.quiet;
         fate = λ all. moved.fate (far.stands.fate all);
       }
 
-      pub lines_more : (reply : Replied) → Wrote (at reply).lines b c → Wrote (course_of p first (far.replies ++ reply ∷ [])).lines a c
-      lines_more reply wrote =
-          wrote_as _ _ a c (sym (then reply).lines) (wrote_more (course_of p first far.replies).lines (at reply).lines a b c far.wrote wrote)
+      pub lines_more : (reply : Replied) (again : Bool) → Hears reply again → Wrote (at reply again).lines b c
+          → Wrote (course_of p first (far.replies ++ reply ∷ [])).lines a c
+      lines_more reply again is wrote =
+          wrote_as _ _ a c (sym (then reply again is.repeats).lines) (wrote_more (course_of p first far.replies).lines (at reply again).lines a b c far.wrote wrote)
 
-      unfoldable pub on : (reply : Replied) (next : Wait) → IsReplied asked reply mid now → (at reply).wait ≡ next → Moved (at reply).state b c → Wrote (at reply).lines b c
-          → SoFar p a c start now next
-      on reply next replied waits moved wrote = record {
+      unfoldable pub on : (reply : Replied) (again : Bool) (next : Wait) → Hears reply again → (at reply again).wait ≡ next → Moved (at reply again).state b c
+          → Wrote (at reply again).lines b c → SoFar p a c start now next new
+      on reply again next is waits moved wrote = record {
         replies = far.replies ++ reply ∷ [];
-        lawful = lawful_last far.replies reply far.lawful replied.lawful;
-        waits = (then reply).wait ∙ waits;
-        stands = stands_more reply moved;
-        talked = talked_more reply replied;
-        wrote = lines_more reply wrote;
-        passed = passed_more reply c (at reply).state (then reply).state moved.during;
+        lawful = lawful_last far.replies reply far.lawful is.replied.lawful;
+        waits = (then reply again is.repeats).wait ∙ waits;
+        counts = (then reply again is.repeats).tokens_are
+            ∙ ap (λ (r : Role). tokens_by r tokens reply again) (sym (asks_role p b.client.kept wait asked asks)) ∙ sym is.counts;
+        stands = stands_more reply again is moved;
+        talked = talked_more reply again is;
+        wrote = lines_more reply again is wrote;
+        passed = passed_more reply c (at reply again).state (then reply again is.repeats).state moved.during;
       }

@@ -1,7 +1,7 @@
 -- What a sender's sync posts, its peer's sync opens.
-use Rattle.std.proofs.Common.{List, [], ap, ap₂, drop, refl, subst, sym, zero, suc, ℕ, ◌++◌, ◌+◌, ◌∙◌, ◌∷◌, ◌≡◌, append_assoc, append-nil}
-use Rattle.std.specs.Prelude.{All, filter, map}
-use Rattle.std.proofs.lemmas.List.{map-append}
+use Rattle.std.proofs.Common.{List, None, Option, Some, [], length, ◌*◌, ap, ap₂, drop, refl, subst, sym, zero, suc, ℕ, ◌++◌, ◌+◌, ◌∙◌, ◌∷◌, ◌≡◌, append_assoc, append-nil}
+use Rattle.std.specs.Prelude.{All, filter, map, option_map}
+use Rattle.std.proofs.lemmas.List.{length-append, length-map, map-append}
 use Rattle.boxes.specs.Posts.{Post}
 use Rattle.dr_base.specs.Position.{is_own, peer_of}
 use Rattle.dr_base.specs.declared.position.Position.{Position}
@@ -18,11 +18,16 @@ use Rattle.relay_core.specs.Boxes.{Box, Kept, box_of, with_packet}
 use Rattle.relay_core.specs.Lawful.{IsLawfulBox}
 use Rattle.session_model.specs.Clients.{Client}
 use Rattle.session_model.specs.Schedule.{session_of}
-use Rattle.sync_model.specs.Transfers.{emptied, with_posts}
+use Rattle.sync_model.specs.Transfers.{HasCounters, IsGuardedFor, counted, counted_on, emptied, with_posts}
+use Rattle.sync_model.specs.Tokens.{SyncKeys}
+use Rattle.relay_guard.specs.Guards.{key_of, with_last}
+use Rattle.relay_guard.specs.declared.guard.Guard.{Guard}
+use Rattle.relay_guard.specs.declared.guard.Role.{Role}
+use Rattle.relay_guard.specs.declared.guard.Role.TheVariants.{Owner, Poster}
 use Rattle.client.specs.Syncing.Arrivals.{HoldsPackets}
 use Rattle.client.specs.Syncing.GoingOver.{GoesOver, boxes_left, positions_of}
 use Rattle.client.specs.Syncing.Lines.{box_name, own_box, peers_box}
-use Rattle.client.specs.Syncing.Parties.{waiting}
+use Rattle.client.specs.Syncing.Parties.{client_party, waiting}
 
 -- ---- what waits are packets of the conversation
 
@@ -72,8 +77,27 @@ posted_guard : (box : Box) (packets : List (List ℕ)) → (with_posts box packe
 posted_guard box [] = refl
 posted_guard box (packet ∷ packets) = posted_guard (with_packet box packet) packets
 
+-- ---- the other key's counter, and both keys, stay
+
+other_key : (guard : Guard) (role other : Role) (n : ℕ) → key_of (with_last guard role n) other ≡ key_of guard other
+other_key guard Owner Owner n = refl
+other_key guard Owner Poster n = refl
+other_key guard Poster Owner n = refl
+other_key guard Poster Poster n = refl
+
+still_guarded_for : (keys : Option SyncKeys) (role other : Role) (n : ℕ) (guard : Option Guard) → IsGuardedFor keys other guard
+    → IsGuardedFor keys other (option_map (counted_on role n) guard)
+still_guarded_for None role other n None is = tt
+still_guarded_for (Some keys) role other n None is = tt
+still_guarded_for None role other n (Some guard) is = absurd is
+still_guarded_for (Some keys) role other n (Some guard) is = other_key guard role other _ ∙ is
+
+other_counters : (n many : ℕ) (guard : Option Guard) → HasCounters Owner many guard → HasCounters Owner many (option_map (counted_on Poster n) guard)
+other_counters n many None has = tt
+other_counters n many (Some guard) has = has
+
 pub goes_over : (k : Mechanism) → GoesOver k
-goes_over k = λ prefix again w v side sender receiver boxes own peers replies others ps sends receives same transfers opens has room fits first next holds expected.
+goes_over k = λ prefix again w v side sender receiver boxes own peers replies others ps sends receives same transfers opens has guarded counters room fits first next holds expected.
     let out : waiting sender ≡ map (λ (p : Position). (post_at k w.conversation p).packet) (positions_of sender) =
     subst (λ (kept : Client). waiting kept ≡ map (λ (p : Position). (post_at k w.conversation p).packet) (positions_of kept)) (sym sends.keeps) (waiting_is k w side) in
     let delivered = (transfers boxes own peers has room first.carried first.past).1 fits in
@@ -89,10 +113,18 @@ goes_over k = λ prefix again w v side sender receiver boxes own peers replies o
     posted_packets peers (waiting sender)
     ∙ ap₂ (λ (x y : List (List ℕ)). x ++ y) holds (out ∙ ap (λ (c : Conversation). map (λ (p : Position). (post_at k c p).packet) (positions_of sender)) (sym same))
     ∙ sym (map-append (λ (p : Position). (post_at k v.conversation p).packet) ps (positions_of sender)) in
-    (opens v (peer_of side) receives after (with_posts peers (waiting sender)) (emptied own) (record {
+    let keys = (client_party k again receiver).keys in
+    let many = length (waiting sender) in
+    let long : length (with_posts peers (waiting sender)).packets ≡ length peers.packets + length sender.outbox =
+    sym (length-map (with_posts peers (waiting sender)).packets (λ (kept : Kept). kept.packet)) ∙ ap length (posted_packets peers (waiting sender))
+    ∙ length-append (map (λ (kept : Kept). kept.packet) peers.packets) (waiting sender)
+    ∙ ap₂ (λ (a b : ℕ). a + b) (length-map peers.packets (λ (kept : Kept). kept.packet)) (length-map sender.outbox (λ (i : Post). i.packet)) in
+    (opens v (peer_of side) receives after (counted Poster many (with_posts peers (waiting sender))) (counted Owner (2 * length own.packets + 1) (emptied own)) (record {
+      own_guard = still_guarded_for keys Poster Owner many (with_posts peers (waiting sender)).guard (subst (λ (g : Option Guard). IsGuardedFor keys Owner g) (sym (posted_guard peers (waiting sender))) guarded);
+      own_counters = other_counters many _ (with_posts peers (waiting sender)).guard
+          (subst (λ (g : Option Guard). HasCounters Owner (2 * length (with_posts peers (waiting sender)).packets + 1) g) (sym (posted_guard peers (waiting sender)))
+          (subst (λ (n : ℕ). HasCounters Owner (2 * n + 1) peers.guard) (sym long) counters));
       lawful = subst (λ (bs : List Box). All IsLawfulBox bs) there delivered.answered.lawful;
       own_box = ap (λ (n : List ℕ). box_of n after) own_is ∙ ap (box_of (peers_box sender)) (sym there) ∙ delivered.peers_box;
       peers_box = ap (λ (n : List ℕ). box_of n after) peers_is ∙ ap (box_of (own_box sender)) (sym there) ∙ delivered.own_box;
-      own_open = posted_guard peers (waiting sender) ∙ has.peers_open;
-      peers_open = has.own_open;
     }) next.carried next.past (ps ++ positions_of sender) whole expected).1

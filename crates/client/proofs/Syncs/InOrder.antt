@@ -1,5 +1,5 @@
 -- A sync reply by reply: each round is a turn of it, and what a crash leaves at a moment of it is behind what was sent.
-use Rattle.std.proofs.Common.{Err, List, Ok, Some, [], ap, append-nil, arith, inl, inr, None, refl, subst, sym, ℕ, ⊎_elim, ◌++◌, ◌∙◌, ◌∷◌, ◌≡◌, ◌≤◌, ◌⊎◌}
+use Rattle.std.proofs.Common.{Bool, Err, List, Ok, Some, [], ap, append-nil, arith, inl, inr, None, refl, subst, sym, ℕ, ⊎_elim, ◌++◌, ◌∙◌, ◌∷◌, ◌≡◌, ◌≤◌, ◌⊎◌}
 use Rattle.std.specs.List.{sum_by}
 use Rattle.dr_disk.specs.Spans.{HavePassed}
 use Rattle.dr_disk.specs.State.{DiskState, IsLawful}
@@ -8,7 +8,7 @@ use Rattle.dr_disk.proofs.Steps.{stays}
 use Rattle.dr_ports.specs.States.{SinkState}
 use Rattle.dr_ports.specs.Wires.{Port}
 use Rattle.kem_laws.specs.Mechanism.{Mechanism}
-use Rattle.relay_pipe.specs.Asking.{IsFaulty, IsReplied, cut, fault_at, unread}
+use Rattle.relay_pipe.specs.Asking.{IsFaulty, cut, fault_at, unread}
 use Rattle.relay_pipe.specs.Exchanging.{Exchanges}
 use Rattle.relay_pipe.specs.declared.faults.PeerFault.{PeerFault}
 use Rattle.relay_pipe.proofs.Exchanged.{nothing_yet}
@@ -18,9 +18,10 @@ use Rattle.relay_wire.specs.Requests.{Asked}
 use Rattle.session_model.specs.Clients.{Client}
 use Rattle.session_record.specs.Record.{record_text}
 use Rattle.sync_model.specs.Carried.{request_bytes}
-use Rattle.sync_model.specs.Courses.{Course, as_list, awaited, begun, course_of, made_requests, read_one}
-use Rattle.sync_model.specs.Moves.{Ending, Wait, asked_in, box_is_full, ended, fetching, inbox_full, move, no_such_box, over, wrong}
+use Rattle.sync_model.specs.Courses.{Course, as_list, asked_now, awaited, begun, course_of, made_requests, read_one}
+use Rattle.sync_model.specs.Moves.{Ending, Move, Wait, asked_in, box_is_full, denied_by, ended, fetching, inbox_full, no_such_box, over, wrong}
 use Rattle.sync_model.specs.Parties.{Party}
+use Rattle.sync_model.specs.Tokens.{Tokens, first_tokens, tagged}
 use Rattle.sync_model.specs.declared.more.More.{More}
 use Rattle.sync_model.proofs.Reading.{read_last}
 use Rattle.client.specs.Cells.{IsOldOrNewInCell, client_cell}
@@ -28,16 +29,17 @@ use Rattle.client.specs.Clients.{ClientNow, IsReady}
 use Rattle.client.specs.Outcomes.{IsReplacing}
 use Rattle.client.specs.declared.syncing.faults.SyncFault.{SyncFault}
 use Rattle.client.specs.declared.syncing.faults.SyncFault.TheVariants.{Closed, Link, Peer, Refused, Store, Write}
-use Rattle.client.specs.Syncing.InOrder.{AreStepped, EndsBehind, EndsInOrder, InOrder, IsAtRestFor, IsBehindSent, IsSyncMoment, IsTurn, Spot, SyncsInOrder, between, kept_after, kept_count, moment_at, none_yet, one_more, spot, take_count, within}
+use Rattle.client.specs.Syncing.InOrder.{AreStepped, EndsBehind, EndsInOrder, InOrder, acks_among, IsAtRestFor, IsBehindSent, IsSyncMoment, IsTurn, Leaves, Spot, SyncsInOrder, between, kept_after, kept_count, moment_at, none_yet, one_more, spot, take_count, within}
 use Rattle.client.specs.Syncing.Moments.{IsCounted, Moved, Wrote, WroteBeginning}
 use Rattle.client.specs.Syncing.Parties.{client_party}
-use Rattle.client.specs.Syncing.Rounds.{IsRound, RoundEnd, came_to_end, goes_on, heard, stops, sync_fault_of, was_broken, was_unheard, was_unstored, was_unwritten, went_on}
+use Rattle.client.specs.Syncing.Rounds.{IsHeard, IsRound, RoundEnd, came_to_end, heard, heard_as, stops, sync_fault_of, was_broken, was_unheard, was_unstored, was_unwritten, went_on}
 use Rattle.client.specs.Syncing.Syncs.{HasRecord}
+use Rattle.client.proofs.Syncs.Courses.{asks_still}
 use Rattle.client.proofs.Syncs.Ending.{ends_unwritten, ends_well, goes_round, rested, turned}
 use Rattle.client.proofs.Syncs.Going.{begins, on, then}
 use Rattle.client.proofs.Syncs.Moving.{none_passed}
 use Rattle.client.proofs.Syncs.Parties.{drops_one, keeps_outbox}
-use Rattle.client.proofs.Syncs.Tallies.{IsTallied, acks_of, tallied, takes_more}
+use Rattle.client.proofs.Syncs.Tallies.{IsTallied, tallied, takes_more}
 
 -- ---- rounds
 
@@ -47,6 +49,7 @@ no_store (ended which) call is = absurd (cc)
 no_store inbox_full call is = absurd (cc)
 no_store box_is_full call is = absurd (cc)
 no_store no_such_box call is = absurd (cc)
+no_store (denied_by rule) call is = absurd (cc)
 no_store wrong call is = absurd (cc)
 
 module _ (p : Party Client) (first : Client) {X Y : Type 0} (state : X → DiskState) (port : Y → Port) (start : X) (from : Y) (now : X) (last : Y)
@@ -61,23 +64,18 @@ module _ (p : Party Client) (first : Client) {X Y : Type 0} (state : X → DiskS
   behind_ends ending Write is ends = ends
 
 module _ {X Y Z : Type 0} (state : X → DiskState) (port : Y → Port) (taken : Z → SinkState) (p : Party Client) where
-  abbrev At : Spot X Y Z → Spot X Y Z → Wait → Type 0
+  abbrev At : Spot X Y Z → Spot X Y Z → Wait → Tokens → Type 0
   At = InOrder state port taken p
 
   -- before the first reply
-  pub begins_in_order : (a : Spot X Y Z) → a.client.closed ≡ None → IsReady a.client.kept a.client.store (state a.disk) → At a a (fetching 0)
+  pub begins_in_order : (a : Spot X Y Z) → a.client.closed ≡ None → IsReady a.client.kept a.client.store (state a.disk) → At a a (fetching 0) first_tokens
   unfolding begins
   begins_in_order a is_open ready = record {
     far = begins p (moment_at state port taken p a) (port a.link) is_open ready;
     stepped = none_yet (record { store = a.client.store; ready = ready });
   }
 
-  -- where a round leaves a sync
-  abbrev pub Leaves : Spot X Y Z → Spot X Y Z → RoundEnd → Type 0
-  Leaves a b (goes_on wait) = At a b wait
-  Leaves a b (stops fault) = SyncsInOrder state port taken p a b (Err fault)
-
-  module _ (a b : Spot X Y Z) (wait : Wait) (along : At a b wait) where
+  module _ (a b : Spot X Y Z) (wait : Wait) (tokens : Tokens) (along : At a b wait tokens) where
     abbrev replies : List Replied
     replies = along.far.replies
 
@@ -100,44 +98,53 @@ module _ {X Y Z : Type 0} (state : X → DiskState) (port : Y → Port) (taken :
       };
     }
 
-    module _ (c : Spot X Y Z) (asked : Asked) (asks : asked_in p b.client.kept wait ≡ Some asked) where
-      asks_so : asked_in p (kept_after p a.client.kept replies) (course_of p a.client.kept replies).wait ≡ Some asked
-      asks_so = ap (λ (s : Client). asked_in p s (course_of p a.client.kept replies).wait) (sym along.far.stands.keeps) ∙ ap (asked_in p b.client.kept) along.far.waits ∙ asks
+    module _ (c : Spot X Y Z) (new : Tokens) (asked : Asked) (asks : asked_in p b.client.kept wait ≡ Some asked) where
+      abbrev sent : Asked
+      sent = tagged p.keys tokens asked
 
-      next_is : (reply : Replied) → kept_after p a.client.kept (replies ++ reply ∷ []) ≡ (move p b.client.kept wait reply).state
-      next_is reply = (then p (moment_at state port taken p a) (moment_at state port taken p b) (port a.link) (port b.link) wait along.far
-          (moment_at state port taken p c) (port c.link) asked asks reply).state
+      abbrev makes : Replied → Bool → Move Client
+      makes reply again = heard_as p b.client.kept wait reply again
 
-      turns : (reply : Replied) → IsReplied asked reply (port b.link) (port c.link)
-          → IsReplacing b.client.kept (move p b.client.kept wait reply).state (state b.disk) (state c.disk)
+      abbrev Heard : Replied → Bool → Type 0
+      Heard reply again = IsHeard p.keys tokens new asked (port b.link) (port c.link) reply again
+
+      asks_so : asked_now p (course_of p a.client.kept replies) ≡ Some sent
+      asks_so = asks_still p a.client.kept replies b.client.kept wait tokens asked along.far.stands.keeps along.far.waits along.far.counts asks
+
+      next_is : (reply : Replied) (again : Bool) → Heard reply again → kept_after p a.client.kept (replies ++ reply ∷ []) ≡ (makes reply again).state
+      next_is reply again is = (then p (moment_at state port taken p a) (moment_at state port taken p b) (port a.link) (port b.link) wait tokens along.far
+          (moment_at state port taken p c) (port c.link) new asked asks reply again is.repeats).state
+
+      turns : (reply : Replied) (again : Bool) → Heard reply again
+          → IsReplacing b.client.kept (makes reply again).state (state b.disk) (state c.disk)
           → IsTurn p a.client.kept replies reply (state b.disk) (state c.disk) (port b.link) (port c.link)
-      turns reply replied replacing = record {
-        asked = asked;
+      turns reply again is replacing = record {
+        asked = sent;
         waits = asks_so;
-        told = replied.told;
+        told = is.replied.told;
         during = subst (λ (x : Client). IsReplacing x (kept_after p a.client.kept (replies ++ reply ∷ [])) (state b.disk) (state c.disk)) along.far.stands.keeps
-            (subst (λ (x : Client). IsReplacing b.client.kept x (state b.disk) (state c.disk)) (sym (next_is reply)) replacing);
+            (subst (λ (x : Client). IsReplacing b.client.kept x (state b.disk) (state c.disk)) (sym (next_is reply again is)) replacing);
       }
 
-      stepped_more : (reply : Replied) → IsReplied asked reply (port b.link) (port c.link)
-          → Moved (move p b.client.kept wait reply).state (moment_at state port taken p b) (moment_at state port taken p c)
+      stepped_more : (reply : Replied) (again : Bool) → Heard reply again
+          → Moved (makes reply again).state (moment_at state port taken p b) (moment_at state port taken p c)
           → AreStepped p a.client.kept state port a.disk a.link (replies ++ reply ∷ []) c.disk c.link
-      stepped_more reply replied moved =
-          one_more replies reply b.disk c.disk b.link c.link along.stepped (turns reply replied moved.during)
+      stepped_more reply again is moved =
+          one_more replies reply b.disk c.disk b.link c.link along.stepped (turns reply again is moved.during)
           (subst (λ (x : Client). IsCounted x (kept_after p a.client.kept (replies ++ reply ∷ [])) (state b.disk) (state c.disk)) along.far.stands.keeps
-          (subst (λ (x : Client). IsCounted b.client.kept x (state b.disk) (state c.disk)) (sym (next_is reply)) moved.counted))
+          (subst (λ (x : Client). IsCounted b.client.kept x (state b.disk) (state c.disk)) (sym (next_is reply again is)) moved.counted))
           (record {
             store = c.client.store;
-            ready = subst (λ (x : Client). IsReady x c.client.store (state c.disk)) (moved.keeps ∙ sym (next_is reply)) moved.ready;
+            ready = subst (λ (x : Client). IsReady x c.client.store (state c.disk)) (moved.keeps ∙ sym (next_is reply again is)) moved.ready;
           })
 
-      ended_more : (reply : Replied) → IsReplied asked reply (port b.link) (port c.link)
-          → Moved (move p b.client.kept wait reply).state (moment_at state port taken p b) (moment_at state port taken p c)
+      ended_more : (reply : Replied) (again : Bool) → Heard reply again
+          → Moved (makes reply again).state (moment_at state port taken p b) (moment_at state port taken p c)
           → EndsBehind p a.client.kept state port a.disk a.link (replies ++ reply ∷ []) c.disk c.link
-      ended_more reply replied moved = record {
+      ended_more reply again is moved = record {
         disk = c.disk;
         link = c.link;
-        stepped = stepped_more reply replied moved;
+        stepped = stepped_more reply again is moved;
         awaits = record {
           got = [];
           put = [];
@@ -150,38 +157,38 @@ module _ {X Y Z : Type 0} (state : X → DiskState) (port : Y → Port) (taken :
         };
       }
 
-      frame_is : request_bytes (awaited p (course_of p a.client.kept replies)) ≡ request_frame asked
-      frame_is = ap (λ o. request_bytes (as_list o)) asks_so ∙ append-nil (request_frame asked)
+      frame_is : request_bytes (awaited p (course_of p a.client.kept replies)) ≡ request_frame sent
+      frame_is = ap (λ o. request_bytes (as_list o)) asks_so ∙ append-nil (request_frame sent)
 
-      sent_whole : (fault : PeerFault) → IsFaulty (request_frame asked) (port b.link) (port c.link) fault
-          → (got : List ℕ) × Exchanges got (request_frame asked) (port b.link) (port c.link)
+      sent_whole : (fault : PeerFault) → IsFaulty (request_frame sent) (port b.link) (port c.link) fault
+          → (got : List ℕ) × Exchanges got (request_frame sent) (port b.link) (port c.link)
       sent_whole fault (unread frame bad told whole reads quiet) = (frame, told)
       sent_whole fault (cut got told partial end quiet) = (got, told)
 
       pub goes_in_order : (turn : RoundEnd)
-          → IsRound p wait asked (moment_at state port taken p b) (moment_at state port taken p c) (port b.link) (port c.link) turn → Leaves a c turn
+          → IsRound p wait asked tokens new (moment_at state port taken p b) (moment_at state port taken p c) (port b.link) (port c.link) turn → Leaves state port taken p new a c turn
       unfolding goes_round turned on
-      goes_in_order turn (heard reply other replied (went_on next waits moved wrote)) = record {
-        far = on p (moment_at state port taken p a) (moment_at state port taken p b) (port a.link) (port b.link) wait along.far
-            (moment_at state port taken p c) (port c.link) asked asks reply next replied waits moved wrote;
-        stepped = stepped_more reply replied moved;
+      goes_in_order turn (heard reply again other is (went_on next waits moved wrote)) = record {
+        far = on p (moment_at state port taken p a) (moment_at state port taken p b) (port a.link) (port b.link) wait tokens along.far
+            (moment_at state port taken p c) (port c.link) new asked asks reply again next is waits moved wrote;
+        stepped = stepped_more reply again is moved;
       }
-      goes_in_order turn (heard reply other replied (came_to_end ending fault waits is moved wrote)) = record {
-        syncs = goes_round p (moment_at state port taken p a) (moment_at state port taken p b) (port a.link) (port b.link) wait along.far
-            (moment_at state port taken p c) (port c.link) asked asks (stops fault)
-            (heard reply (stops fault) replied (came_to_end ending fault waits is moved wrote));
-        order = behind_ends p a.client.kept state port a.disk a.link c.disk c.link (replies ++ reply ∷ []) ending fault is (ended_more reply replied moved);
+      goes_in_order turn (heard reply again other is (came_to_end ending fault waits called moved wrote)) = record {
+        syncs = goes_round p (moment_at state port taken p a) (moment_at state port taken p b) (port a.link) (port b.link) wait tokens along.far
+            (moment_at state port taken p c) (port c.link) new asked asks (stops fault)
+            (heard reply again (stops fault) is (came_to_end ending fault waits called moved wrote));
+        order = behind_ends p a.client.kept state port a.disk a.link c.disk c.link (replies ++ reply ∷ []) ending fault called (ended_more reply again is moved);
       }
-      goes_in_order turn (heard reply other replied (was_unwritten moved wrote)) = record {
-        syncs = goes_round p (moment_at state port taken p a) (moment_at state port taken p b) (port a.link) (port b.link) wait along.far
-            (moment_at state port taken p c) (port c.link) asked asks (stops Write)
-            (heard reply (stops Write) replied (was_unwritten moved wrote));
-        order = ended_more reply replied moved;
+      goes_in_order turn (heard reply again other is (was_unwritten moved wrote)) = record {
+        syncs = goes_round p (moment_at state port taken p a) (moment_at state port taken p b) (port a.link) (port b.link) wait tokens along.far
+            (moment_at state port taken p c) (port c.link) new asked asks (stops Write)
+            (heard reply again (stops Write) is (was_unwritten moved wrote));
+        order = ended_more reply again is moved;
       }
-      goes_in_order turn (heard reply other replied (was_unstored call broken wrote)) = record {
-        syncs = goes_round p (moment_at state port taken p a) (moment_at state port taken p b) (port a.link) (port b.link) wait along.far
-            (moment_at state port taken p c) (port c.link) asked asks (stops (Store call))
-            (heard reply (stops (Store call)) replied (was_unstored call broken wrote));
+      goes_in_order turn (heard reply again other is (was_unstored call broken wrote)) = record {
+        syncs = goes_round p (moment_at state port taken p a) (moment_at state port taken p b) (port a.link) (port b.link) wait tokens along.far
+            (moment_at state port taken p c) (port c.link) new asked asks (stops (Store call))
+            (heard reply again (stops (Store call)) is (was_unstored call broken wrote));
         order = record {
           before = replies;
           reply = reply;
@@ -189,38 +196,38 @@ module _ {X Y Z : Type 0} (state : X → DiskState) (port : Y → Port) (taken :
           disk = b.disk;
           link = b.link;
           stepped = along.stepped;
-          turn = turns reply replied broken.during;
+          turn = turns reply again is broken.during;
         };
       }
       goes_in_order turn (was_broken broken still) = record {
-        syncs = goes_round p (moment_at state port taken p a) (moment_at state port taken p b) (port a.link) (port b.link) wait along.far
-            (moment_at state port taken p c) (port c.link) asked asks (stops Link) (was_broken broken still);
+        syncs = goes_round p (moment_at state port taken p a) (moment_at state port taken p b) (port a.link) (port b.link) wait tokens along.far
+            (moment_at state port taken p c) (port c.link) new asked asks (stops Link) (was_broken broken still);
         order = stays_behind c broken.got broken.taken broken.left (frame_is ∙ broken.split) broken.told still.0.during still.2;
       }
       goes_in_order turn (was_unheard at kind faulty still) = record {
-        syncs = goes_round p (moment_at state port taken p a) (moment_at state port taken p b) (port a.link) (port b.link) wait along.far
-            (moment_at state port taken p c) (port c.link) asked asks (stops (Peer at kind)) (was_unheard at kind faulty still);
+        syncs = goes_round p (moment_at state port taken p a) (moment_at state port taken p b) (port a.link) (port b.link) wait tokens along.far
+            (moment_at state port taken p c) (port c.link) new asked asks (stops (Peer at kind)) (was_unheard at kind faulty still);
         order = (let got = sent_whole (fault_at at kind) faulty in
-            stays_behind c got.0 (request_frame asked) [] (frame_is ∙ sym (append-nil (request_frame asked))) got.1 still.0.during still.2);
+            stays_behind c got.0 (request_frame sent) [] (frame_is ∙ sym (append-nil (request_frame sent))) got.1 still.0.during still.2);
       }
 
   -- ---- after the last packet
 
-  module _ (a b : Spot X Y Z) (more : More) (along : At a b (over (ended more))) (client : ClientNow) (disk : X) (sink : Z)
+  module _ (a b : Spot X Y Z) (more : More) (tokens : Tokens) (along : At a b (over (ended more)) tokens) (client : ClientNow) (disk : X) (sink : Z)
       (moved : Moved b.client.kept (moment_at state port taken p b) (moment_at state port taken p (spot client disk b.link sink)))
       (idle : HavePassed 0 (state b.disk) (state disk)) where
     abbrev last : Spot X Y Z
     last = spot client disk b.link sink
 
     ends_so : EndsBehind p a.client.kept state port a.disk a.link along.far.replies disk b.link
-    ends_so = stays_behind a b (over (ended more)) along last [] [] (request_bytes (awaited p (course_of p a.client.kept along.far.replies))) refl
+    ends_so = stays_behind a b (over (ended more)) tokens along last [] [] (request_bytes (awaited p (course_of p a.client.kept along.far.replies))) refl
         (nothing_yet (port b.link)) moved.during idle
 
     pub ends_well_in_order : Wrote (p.end_line more) (moment_at state port taken p b) (moment_at state port taken p last)
         → SyncsInOrder state port taken p a last (Ok more)
     unfolding ends_well
     ends_well_in_order wrote = record {
-      syncs = ends_well p (moment_at state port taken p a) (moment_at state port taken p b) (moment_at state port taken p last) (port a.link) (port b.link) more along.far
+      syncs = ends_well p (moment_at state port taken p a) (moment_at state port taken p b) (moment_at state port taken p last) (port a.link) (port b.link) more tokens along.far
           moved wrote;
       order = ends_so;
     }
@@ -229,7 +236,7 @@ module _ {X Y Z : Type 0} (state : X → DiskState) (port : Y → Port) (taken :
         → SyncsInOrder state port taken p a last (Err Write)
     unfolding ends_unwritten
     ends_unwritten_in_order wrote = record {
-      syncs = ends_unwritten p (moment_at state port taken p a) (moment_at state port taken p b) (moment_at state port taken p last) (port a.link) (port b.link) more along.far
+      syncs = ends_unwritten p (moment_at state port taken p a) (moment_at state port taken p b) (moment_at state port taken p last) (port a.link) (port b.link) more tokens along.far
           moved wrote;
       order = ends_so;
     }
@@ -251,10 +258,10 @@ module _ (k : Mechanism) (prefix : List ℕ) (kept : Client) where
         reach = reach;
         has = has;
         taken = ⊎_elim
-            (λ same. subst (λ (f : List Replied). acks_of (made_requests own (course_of own kept replies)) ≤ sum_by take_count (course_of own kept f).acts) (sym same) so_far.acks)
+            (λ same. subst (λ (f : List Replied). acks_among (made_requests own (course_of own kept replies)) ≤ sum_by take_count (course_of own kept f).acts) (sym same) so_far.acks)
             (λ (one : (reply : Replied) × (front ≡ replies ++ reply ∷ [])).
-            subst (λ (f : List Replied). acks_of (made_requests own (course_of own kept replies)) ≤ sum_by take_count (course_of own kept f).acts) (sym one.1)
-            (subst (λ (x : Course Client). acks_of (made_requests own (course_of own kept replies)) ≤ sum_by take_count x.acts) (sym (last_reply replies one.0))
+            subst (λ (f : List Replied). acks_among (made_requests own (course_of own kept replies)) ≤ sum_by take_count (course_of own kept f).acts) (sym one.1)
+            (subst (λ (x : Course Client). acks_among (made_requests own (course_of own kept replies)) ≤ sum_by take_count x.acts) (sym (last_reply replies one.0))
             (omega (arith, so_far.acks, takes_more own (course_of own kept replies) one.0)))) reach;
         gone = tally.gone;
         few = tally.few;

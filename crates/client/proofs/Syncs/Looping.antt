@@ -6,14 +6,15 @@ use Rattle.boxes.specs.Posts.{Post}
 use Rattle.dr_ports.specs.Wires.{Port}
 use Rattle.relay_wire.specs.Requests.{Asked, posts, bare_request}
 use Rattle.session_model.specs.Clients.{Client}
-use Rattle.sync_model.specs.Moves.{Wait, acking, acknowledged, ended, fetching, goes, move, over, posting, posting_of, waits_by}
+use Rattle.sync_model.specs.Moves.{Wait, acking, acknowledged, ended, fetching, goes, over, posting, posting_of, waits_by}
 use Rattle.sync_model.specs.Parties.{Party}
+use Rattle.sync_model.specs.Tokens.{Tokens}
 use Rattle.sync_model.specs.declared.limits.TheConstants.{ITEM_LIMIT}
 use Rattle.sync_model.specs.declared.more.More.{More}
 use Rattle.sync_model.specs.declared.more.More.TheVariants.{More as MoreStands}
 use Rattle.client.specs.Clients.{ClientNow, IsOpenOn, IsReady}
 use Rattle.client.specs.Syncing.Moments.{Moment}
-use Rattle.client.specs.Syncing.Rounds.{Hears, Idles, IsRound, RoundEnd, goes_on, heard, was_broken, was_unheard, went_on}
+use Rattle.client.specs.Syncing.Rounds.{Hears, Idles, IsRound, RoundEnd, goes_on, heard, heard_as, was_broken, was_unheard, went_on}
 use Rattle.client.specs.Syncing.SoFar.{collecting}
 use Rattle.client.proofs.Syncs.Turning.{idle_turns, still_again}
 
@@ -43,14 +44,15 @@ all_taken packets n is = by_test (n == ITEM_LIMIT) (grind (arith, nat_tests, is)
     by_test false is_true = absurd (let e : false ≡ true = is_true in cc)
 
 -- an acknowledgement as a round
-pub acks_round : (p : Party Client) (b : Moment) (client : ClientNow) (n number : ℕ) (asked : Asked) (start now : Port) (turn : RoundEnd) → client ≡ b.client
-    → b.client.closed ≡ None → IsReady b.client.kept b.client.store b.disk
-    → Hears asked start now (λ reply turning. Idles p b.client.kept (move p b.client.kept (acking n number) reply) turning) (Unit {0}) turn
-    → IsRound p (acking n number) asked b (record b { client = client }) start now turn
-acks_round p b client n number asked start now turn same is_open ready (heard reply turning replied idles) =
-    heard reply turning replied (idle_turns p b (record b { client = client }) (move p b.client.kept (acking n number) reply) turning idles (still_again b client same is_open ready))
-acks_round p b client n number asked start now turn same is_open ready (was_broken broken still) = was_broken broken (still_again b client same is_open ready)
-acks_round p b client n number asked start now turn same is_open ready (was_unheard at kind faulty still) = was_unheard at kind faulty (still_again b client same is_open ready)
+pub acks_round : (p : Party Client) (b : Moment) (client : ClientNow) (n number : ℕ) (asked : Asked) (old new : Tokens) (start now : Port) (turn : RoundEnd)
+    → client ≡ b.client → b.client.closed ≡ None → IsReady b.client.kept b.client.store b.disk
+    → Hears p.keys old new asked start now (λ reply again turning. Idles p b.client.kept (heard_as p b.client.kept (acking n number) reply again) turning) (Unit {0}) turn
+    → IsRound p (acking n number) asked old new b (record b { client = client }) start now turn
+acks_round p b client n number asked old new start now turn same is_open ready (heard reply again turning is idles) =
+    heard reply again turning is
+    (idle_turns p b (record b { client = client }) (heard_as p b.client.kept (acking n number) reply again) turning idles (still_again b client same is_open ready))
+acks_round p b client n number asked old new start now turn same is_open ready (was_broken broken still) = was_broken broken (still_again b client same is_open ready)
+acks_round p b client n number asked old new start now turn same is_open ready (was_unheard at kind faulty still) = was_unheard at kind faulty (still_again b client same is_open ready)
 
 -- ---- the second part
 
@@ -68,6 +70,6 @@ asks_post [] packet is name = absurd (let e : Some packet ≡ None = is in cc)
 asks_post (x ∷ xs) packet is name = ap (λ (b : List ℕ). Some (bare_request name (posts b))) (let e : Some packet ≡ Some x = is in let f : x ≡ packet = cc in f)
 
 -- a round that the sync goes on after leaves the client open and ready
-pub goes_ready : (p : Party Client) (wait next : Wait) (asked : Asked) (a b : Moment) (start now : Port) → IsRound p wait asked a b start now (goes_on next)
-    → IsOpenOn b.client b.disk
-goes_ready p wait next asked a b start now (heard reply turning replied (went_on n waits moved wrote)) = (moved.is_open, moved.ready)
+pub goes_ready : (p : Party Client) (wait next : Wait) (asked : Asked) (old new : Tokens) (a b : Moment) (start now : Port)
+    → IsRound p wait asked old new a b start now (goes_on next) → IsOpenOn b.client b.disk
+goes_ready p wait next asked old new a b start now (heard reply again turning is (went_on n waits moved wrote)) = (moved.is_open, moved.ready)

@@ -1,5 +1,5 @@
 -- A client as a party of a sync: its boxes' names differ, and its outbox changes only by what was sent.
-use Rattle.std.proofs.Common.{Bool, Err, List, Ok, Result, [], ap, arith, false, length, refl, suc, true, ℕ, ◌++◌, ◌∙◌, ◌∷◌, ◌≡◌, ◌≤◌}
+use Rattle.std.proofs.Common.{Bool, Err, List, Ok, Option, Result, [], ap, arith, false, length, refl, suc, true, ℕ, ◌++◌, ◌∙◌, ◌∷◌, ◌≡◌, ◌≤◌}
 use Rattle.std.specs.Prelude.{All, codes, drop, if◌then◌else◌, map, nat_eq, nat_le, ◌&&◌}
 use Rattle.std.specs.Str.{bytes_eq}
 use Rattle.std.proofs.lemmas.Bool.Decides.{nat_tests}
@@ -29,7 +29,8 @@ use Rattle.session_model.specs.States.{State}
 use Rattle.sync_model.proofs.Asking.{ArePackets}
 use Rattle.sync_model.proofs.Cases.{by_test}
 use Rattle.client.specs.Syncing.Lines.{box_name, own_box, peers_box}
-use Rattle.client.specs.Syncing.Parties.{sent_step, taken_step, waiting}
+use Rattle.sync_model.specs.Tokens.{SyncKeys}
+use Rattle.client.specs.Syncing.Parties.{party_of, sent_step, taken_step, waiting}
 use Rattle.client.proofs.Lawful.Posts.{packet_some}
 use Rattle.client.proofs.Syncs.Oldest.{packet_lawful}
 
@@ -46,6 +47,12 @@ names_apart session Second = same_front (encode_lower session) (codes "-2") (cod
 
 pub boxes_apart : (kept : Client) → bytes_eq (own_box kept) (peers_box kept) ≡ false
 boxes_apart kept = names_apart kept.state.session kept.state.side
+
+pub same_party : (k : Mechanism) (prefix own mine peers theirs : List ℕ) (keys same : Option SyncKeys) → own ≡ mine → peers ≡ theirs → keys ≡ same
+    → party_of k prefix own peers keys ≡ party_of k prefix mine theirs same
+same_party k prefix own mine peers theirs keys same own_is peers_is keys_are =
+    ap (λ (x : List ℕ). party_of k prefix x peers keys) own_is ∙ ap (λ (x : List ℕ). party_of k prefix mine x keys) peers_is
+    ∙ ap (λ (x : Option SyncKeys). party_of k prefix mine theirs x) keys_are
 
 -- ---- the outbox
 

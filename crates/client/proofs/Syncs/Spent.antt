@@ -1,5 +1,5 @@
 -- What a sync used up is erased.
-use Rattle.std.proofs.Common.{Bool, Err, List, Ok, Result, [], ap, append_assoc, false, if◌then◌else◌, inl, subst, sym, ℕ, ⊎_elim, ◌++◌, ◌∙◌, ◌∷◌, ◌≡◌}
+use Rattle.std.proofs.Common.{Bool, Err, List, Ok, Result, [], ap, append_assoc, false, if◌then◌else◌, inl, refl, subst, sym, ℕ, ⊎_elim, ◌++◌, ◌∙◌, ◌∷◌, ◌≡◌}
 use Rattle.dr_base.specs.declared.position.Position.{Position}
 use Rattle.dr_base.specs.declared.position.Side.{Side}
 use Rattle.dr_disk.specs.State.{Always}
@@ -12,7 +12,7 @@ use Rattle.dr_model.specs.Theorems.LawfulWorlds.{IsLawfulWorld}
 use Rattle.kem_laws.specs.Mechanism.{Mechanism}
 use Rattle.relay_wire.specs.Replies.{Replied, item}
 use Rattle.session_model.specs.declared.answer.Answer.TheVariants.{Opened}
-use Rattle.sync_model.specs.Courses.{Course, begun}
+use Rattle.sync_model.specs.Courses.{Course, begun, heard}
 use Rattle.sync_model.specs.Moves.{Move, Wait, fetching, move}
 use Rattle.sync_model.specs.Parties.{Party}
 use Rattle.sync_model.specs.declared.more.More.{More}
@@ -28,6 +28,7 @@ use Rattle.client.specs.declared.syncing.faults.SyncFault.{SyncFault}
 use Rattle.client.specs.declared.syncing.faults.SyncFault.TheVariants.{Closed, Link, Peer, Refused, Store, Write}
 use Rattle.client.proofs.Later.{front_later, lawful_at, whole_later}
 use Rattle.client.proofs.Spending.{erased_in, taken_used}
+use Rattle.client.proofs.Syncs.Asking.{not_behind}
 use Rattle.client.proofs.Syncs.Courses.{before_last}
 use Rattle.client.proofs.Syncs.Worlds.{fair_front}
 
@@ -56,6 +57,7 @@ module _ (k : Mechanism) (prefix : List ℕ) (side : Side) (w : World) where
       let s = (at front).state in
       let there : (at (front ++ item number packet ∷ [])).state ≡ (act_in k s side (taking packet)).next =
       ap (λ (c : Course World). c.state) (read_last p front (item number packet) (begun p w))
+      ∙ ap (λ (again : Bool). (heard p (at front) (item number packet) again).state) (not_behind p.keys (at front).tokens (item number packet) refl)
       ∙ ap (λ (wait : Wait). (move p s wait (item number packet)).state) waits
       ∙ opened_state s n number packet position opens in
       subst (λ (v : World). IsUsed v side position) (sym there) (inl (taken_used k s side packet position opens))

@@ -8,8 +8,8 @@ use Rattle.dr_model.specs.Machines.Worlds.{World}
 use Rattle.dr_model.specs.Theorems.Fairness.{IsUnforged}
 use Rattle.kem_laws.specs.Mechanism.{Mechanism}
 use Rattle.relay_wire.specs.Replies.{Replied, absent, acked, bad, denied, box_full, empty, item, stored, unknown}
-use Rattle.sync_model.specs.Courses.{Course, course_from, read_one}
-use Rattle.sync_model.specs.Moves.{Move, Wait, acking, acknowledged, fetching, move, over, posting}
+use Rattle.sync_model.specs.Courses.{Course, course_from, heard, read_one, repeats}
+use Rattle.sync_model.specs.Moves.{Move, Wait, acking, acknowledged, fetching, goes, move, over, posting}
 use Rattle.sync_model.specs.Parties.{Party}
 use Rattle.sync_model.specs.Simulation.{AreFairFrom, IsFairReply}
 use Rattle.sync_model.specs.declared.limits.TheConstants.{ITEM_LIMIT}
@@ -39,7 +39,7 @@ module _ (k : Mechanism) (prefix : List ℕ) (side : Side) (first : World) where
     acknowledged_leads : (s : World) (n : ℕ) → Leads s (acknowledged p s n).state
     acknowledged_leads s n = either_leads s (n + 1 == ITEM_LIMIT) _ _ (holds.none s) (holds.none s)
 
-    pub move_leads : (s : World) (wait : Wait) (reply : Replied) → IsFairReply Fair s wait reply → Leads s (move p s wait reply).state
+    move_leads : (s : World) (wait : Wait) (reply : Replied) → IsFairReply Fair s wait reply → Leads s (move p s wait reply).state
     move_leads s (fetching n) (item number packet) fair =
         either_leads s (p.take s packet).full _ _ (holds.none s) (holds.takes s packet fair)
     move_leads s (fetching n) (stored m) fair = holds.none s
@@ -70,9 +70,14 @@ module _ (k : Mechanism) (prefix : List ℕ) (side : Side) (first : World) where
     move_leads s (posting which) (denied rule last) fair = holds.none s
     move_leads s (over ending) reply fair = holds.none s
 
+    -- a reply, after which its request may be made once more
+    pub heard_leads : (c : Course World) (reply : Replied) (again : Bool) → IsFairReply Fair c.state c.wait reply → Leads c.state (heard p c reply again).state
+    heard_leads c reply again fair =
+        either_leads c.state again (goes p c.state c.wait) (move p c.state c.wait reply) (holds.none c.state) (move_leads c.state c.wait reply fair)
+
     -- a course, with each reply
     pub course_leads : (c : Course World) (replies : List Replied) → AreFairFrom p Fair c replies → Leads c.state (course_from p c replies).state
     course_leads c [] fair = holds.none c.state
     course_leads c (reply ∷ replies) fair =
         holds.twice c.state (read_one p c reply).state (course_from p (read_one p c reply) replies).state
-        (move_leads c.state c.wait reply fair.0) (course_leads (read_one p c reply) replies fair.1)
+        (heard_leads c reply (repeats p c reply) fair.0) (course_leads (read_one p c reply) replies fair.1)

@@ -53,7 +53,7 @@ module _ (k : Mechanism) (prefix : List ℕ) (first : Client) where
     module _ (own peers : Box) (has : HasBoxes mine boxes own peers) (room : HasRoom mine first own.packets)
         (is_carried : IsCarried mine first boxes replies) (ending : Ending) (is_over : (course_of mine first replies).wait ≡ over ending) where
       can : CanTransfer mine first boxes own peers
-      can = can_transfer mine first boxes own peers (boxes_apart first) has.lawful has.own_box has.peers_box has.own_open has.peers_open room (drops_one k) (keeps_outbox k)
+      can = can_transfer mine first boxes own peers (boxes_apart first) has.lawful has.own_box has.peers_box room has.own_guard has.own_counters (drops_one k) (keeps_outbox k)
 
       abbrev after : List Box
       after = (served boxes (request_bytes (course_of mine first replies).requests)).next
@@ -66,7 +66,7 @@ module _ (k : Mechanism) (prefix : List ℕ) (first : Client) where
           let past = ends_collected mine first boxes own peers can replies is_carried ending is_over in
           record { after = after; answered = answered; own_box = past.own_box; count = past.count; keeps = past.state }
 
-      delivered : HasRoomForAll (mine.outbox first) peers → Delivered mine first replies boxes own peers
+      delivered : HasRoomForAll mine.keys (mine.outbox first) peers → Delivered mine first replies boxes own peers
       delivered fits =
           let at = ends_delivered mine first boxes own peers can replies is_carried ending is_over fits in
           let taken = taken_all mine first own.packets in

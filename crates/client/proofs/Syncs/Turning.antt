@@ -1,16 +1,15 @@
 -- What is made of a reply.
-use Rattle.std.proofs.Common.{Bool, Err, List, None, Ok, Some, [], ap, false, refl, subst, sym, true, ℕ, ◌+◌, ◌==◌, ◌∙◌, ◌≡◌}
+use Rattle.std.proofs.Common.{Bool, List, None, Some, [], ap, false, refl, subst, sym, true, ℕ, ◌+◌, ◌==◌, ◌∙◌, ◌≡◌}
 use Rattle.std.specs.Prelude.{if◌then◌else◌}
 use Rattle.std.proofs.lemmas.Bool.Decides.{nat_tests}
 use Rattle.std.proofs.Common.{arith}
 use Rattle.dr_disk.specs.declared.call.Call.{Call}
-use Rattle.dr_ports.specs.Wires.{Port}
 use Rattle.relay_wire.specs.Parts.{Lent}
-use Rattle.relay_wire.specs.Replies.{Replied, acked, absent}
-use Rattle.relay_wire.specs.Requests.{Asked}
+use Rattle.relay_wire.specs.Replies.{acked, absent}
 use Rattle.relay_wire.specs.Seen.{replied_of}
 use Rattle.relay_wire.specs.declared.reply.Reply.{Reply}
 use Rattle.relay_wire.specs.declared.reply.Reply.TheVariants.{Stored, Item, Empty, Acked, BoxFull, Unknown, Absent, Bad, Denied}
+use Rattle.relay_guard.specs.declared.guard.Denied.{Denied as DeniedBy}
 use Rattle.session_model.specs.Clients.{Client}
 use Rattle.sync_model.specs.Moves.{Ending, Move, Wait, acking, acknowledged, fetching, goes, move, over, posting, waits_by, wrong}
 use Rattle.sync_model.specs.Parties.{Party}
@@ -19,9 +18,9 @@ use Rattle.sync_model.specs.declared.more.More.{More}
 use Rattle.sync_model.specs.declared.more.More.TheVariants.{More as MoreStands}
 use Rattle.client.specs.Clients.{ClientNow, IsReady}
 use Rattle.client.specs.Syncing.Moments.{BrokenOff, Moment, Moved, Wrote, WroteBeginning}
-use Rattle.client.specs.Syncing.Rounds.{GetsReply, Hears, Idles, IsUnmoved, RoundEnd, MovesTo, came_to_end, sync_fault_of, goes_on, heard, idles_on, idles_to_end, stops, was_broken, was_unheard, was_unstored, was_unwritten, went_on}
+use Rattle.client.specs.Syncing.Rounds.{Idles, IsUnmoved, RoundEnd, MovesTo, came_to_end, sync_fault_of, goes_on, idles_on, idles_to_end, stops, was_unstored, was_unwritten, went_on}
 use Rattle.client.specs.declared.syncing.faults.SyncFault.{SyncFault}
-use Rattle.client.specs.declared.syncing.faults.SyncFault.TheVariants.{Closed, Link, Peer, Refused, Store, Write}
+use Rattle.client.specs.declared.syncing.faults.SyncFault.TheVariants.{Peer, Store, Write}
 use Rattle.client.proofs.Syncs.Moving.{none_passed, still, wrote_nothing}
 use Rattle.relay_pipe.specs.declared.faults.PeerKind.TheVariants.{Wrong}
 
@@ -79,61 +78,45 @@ module _ (p : Party Client) (s : Client) (n number : ℕ) where
       idles_to_end wrong (Peer 2 Wrong) (absent_is other false is) refl
 
   pub idle_wrong : (reply : Reply) → (reply ≡ Acked → ⊥) → (reply ≡ Unknown → ⊥) → ((other : ℕ) → reply ≡ Absent other → ⊥)
+      → ((d : DeniedBy) → reply ≡ Denied d → ⊥)
       → Idles p s (move p s (acking n number) (replied_of reply)) (stops (Peer 2 Wrong))
-  idle_wrong (Stored m) not_acked not_unknown not_absent = idles_to_end wrong (Peer 2 Wrong) refl refl
-  idle_wrong (Item m packet) not_acked not_unknown not_absent = idles_to_end wrong (Peer 2 Wrong) refl refl
-  idle_wrong Empty not_acked not_unknown not_absent = idles_to_end wrong (Peer 2 Wrong) refl refl
-  idle_wrong Acked not_acked not_unknown not_absent = absurd (not_acked refl)
-  idle_wrong BoxFull not_acked not_unknown not_absent = idles_to_end wrong (Peer 2 Wrong) refl refl
-  idle_wrong Unknown not_acked not_unknown not_absent = absurd (not_unknown refl)
-  idle_wrong (Absent m) not_acked not_unknown not_absent = absurd (not_absent m refl)
-  idle_wrong (Bad kind) not_acked not_unknown not_absent = idles_to_end wrong (Peer 2 Wrong) refl refl
-  idle_wrong (Denied refusal) not_acked not_unknown not_absent = idles_to_end wrong (Peer 2 Wrong) refl refl
+  idle_wrong (Stored m) not_acked not_unknown not_absent not_denied = idles_to_end wrong (Peer 2 Wrong) refl refl
+  idle_wrong (Item m packet) not_acked not_unknown not_absent not_denied = idles_to_end wrong (Peer 2 Wrong) refl refl
+  idle_wrong Empty not_acked not_unknown not_absent not_denied = idles_to_end wrong (Peer 2 Wrong) refl refl
+  idle_wrong Acked not_acked not_unknown not_absent not_denied = absurd (not_acked refl)
+  idle_wrong BoxFull not_acked not_unknown not_absent not_denied = idles_to_end wrong (Peer 2 Wrong) refl refl
+  idle_wrong Unknown not_acked not_unknown not_absent not_denied = absurd (not_unknown refl)
+  idle_wrong (Absent m) not_acked not_unknown not_absent not_denied = absurd (not_absent m refl)
+  idle_wrong (Bad kind) not_acked not_unknown not_absent not_denied = idles_to_end wrong (Peer 2 Wrong) refl refl
+  idle_wrong (Denied d) not_acked not_unknown not_absent not_denied = absurd (not_denied d refl)
 
   -- ---- of a fetch and of a post
 
   pub fetched_wrong : (reply : Reply) → (reply ≡ Empty → ⊥) → (reply ≡ Unknown → ⊥) → ((m : ℕ) (packet : Lent) → reply ≡ Item m packet → ⊥)
+      → ((d : DeniedBy) → reply ≡ Denied d → ⊥)
       → Idles p s (move p s (fetching n) (replied_of reply)) (stops (Peer 2 Wrong))
-  fetched_wrong (Stored m) not_empty not_unknown not_item = idles_to_end wrong (Peer 2 Wrong) refl refl
-  fetched_wrong (Item m packet) not_empty not_unknown not_item = absurd (not_item m packet refl)
-  fetched_wrong Empty not_empty not_unknown not_item = absurd (not_empty refl)
-  fetched_wrong Acked not_empty not_unknown not_item = idles_to_end wrong (Peer 2 Wrong) refl refl
-  fetched_wrong BoxFull not_empty not_unknown not_item = idles_to_end wrong (Peer 2 Wrong) refl refl
-  fetched_wrong Unknown not_empty not_unknown not_item = absurd (not_unknown refl)
-  fetched_wrong (Absent m) not_empty not_unknown not_item = idles_to_end wrong (Peer 2 Wrong) refl refl
-  fetched_wrong (Bad kind) not_empty not_unknown not_item = idles_to_end wrong (Peer 2 Wrong) refl refl
-  fetched_wrong (Denied refusal) not_empty not_unknown not_item = idles_to_end wrong (Peer 2 Wrong) refl refl
+  fetched_wrong (Stored m) not_empty not_unknown not_item not_denied = idles_to_end wrong (Peer 2 Wrong) refl refl
+  fetched_wrong (Item m packet) not_empty not_unknown not_item not_denied = absurd (not_item m packet refl)
+  fetched_wrong Empty not_empty not_unknown not_item not_denied = absurd (not_empty refl)
+  fetched_wrong Acked not_empty not_unknown not_item not_denied = idles_to_end wrong (Peer 2 Wrong) refl refl
+  fetched_wrong BoxFull not_empty not_unknown not_item not_denied = idles_to_end wrong (Peer 2 Wrong) refl refl
+  fetched_wrong Unknown not_empty not_unknown not_item not_denied = absurd (not_unknown refl)
+  fetched_wrong (Absent m) not_empty not_unknown not_item not_denied = idles_to_end wrong (Peer 2 Wrong) refl refl
+  fetched_wrong (Bad kind) not_empty not_unknown not_item not_denied = idles_to_end wrong (Peer 2 Wrong) refl refl
+  fetched_wrong (Denied d) not_empty not_unknown not_item not_denied = absurd (not_denied d refl)
 
 pub posted_wrong : (p : Party Client) (s : Client) (which : More) (reply : Reply) → (reply ≡ BoxFull → ⊥) → (reply ≡ Unknown → ⊥) → ((m : ℕ) → reply ≡ Stored m → ⊥)
+    → ((d : DeniedBy) → reply ≡ Denied d → ⊥)
     → Idles p s (move p s (posting which) (replied_of reply)) (stops (Peer 2 Wrong))
-posted_wrong p s which (Stored m) not_full not_unknown not_stored = absurd (not_stored m refl)
-posted_wrong p s which (Item m packet) not_full not_unknown not_stored = idles_to_end wrong (Peer 2 Wrong) refl refl
-posted_wrong p s which Empty not_full not_unknown not_stored = idles_to_end wrong (Peer 2 Wrong) refl refl
-posted_wrong p s which Acked not_full not_unknown not_stored = idles_to_end wrong (Peer 2 Wrong) refl refl
-posted_wrong p s which BoxFull not_full not_unknown not_stored = absurd (not_full refl)
-posted_wrong p s which Unknown not_full not_unknown not_stored = absurd (not_unknown refl)
-posted_wrong p s which (Absent m) not_full not_unknown not_stored = idles_to_end wrong (Peer 2 Wrong) refl refl
-posted_wrong p s which (Bad kind) not_full not_unknown not_stored = idles_to_end wrong (Peer 2 Wrong) refl refl
-posted_wrong p s which (Denied refusal) not_full not_unknown not_stored = idles_to_end wrong (Peer 2 Wrong) refl refl
-
--- ---- a request
-
-pub unanswered : (asked : Asked) (start now : Port) (Makes : Replied → RoundEnd → Type 0) (Still : Type 0) (fault : SyncFault) → GetsReply asked start now (Err fault) → Still
-    → Hears asked start now Makes Still (stops fault)
-unanswered asked start now Makes Still (Closed call) is still = absurd is
-unanswered asked start now Makes Still Link is still = was_broken is still
-unanswered asked start now Makes Still (Peer at kind) is still = was_unheard at kind is still
-unanswered asked start now Makes Still (Refused refusal) is still = absurd is
-unanswered asked start now Makes Still (Store call) is still = absurd is
-unanswered asked start now Makes Still Write is still = absurd is
-
-module _ (made asked : Asked) (is : made ≡ asked) (start now : Port) (Makes : Replied → RoundEnd → Type 0) (Still : Type 0) where
-  pub hears_fault : (fault : SyncFault) → GetsReply made start now (Err fault) → Still → Hears asked start now Makes Still (stops fault)
-  hears_fault fault answers still =
-      unanswered asked start now Makes Still fault (subst (λ (x : Asked). GetsReply x start now (Err fault)) is answers) still
-
-  pub hears_reply : (reply : Reply) (turn : RoundEnd) → GetsReply made start now (Ok reply) → Makes (replied_of reply) turn → Hears asked start now Makes Still turn
-  hears_reply reply turn answers makes = heard (replied_of reply) turn (subst (λ (x : Asked). GetsReply x start now (Ok reply)) is answers) makes
+posted_wrong p s which (Stored m) not_full not_unknown not_stored not_denied = absurd (not_stored m refl)
+posted_wrong p s which (Item m packet) not_full not_unknown not_stored not_denied = idles_to_end wrong (Peer 2 Wrong) refl refl
+posted_wrong p s which Empty not_full not_unknown not_stored not_denied = idles_to_end wrong (Peer 2 Wrong) refl refl
+posted_wrong p s which Acked not_full not_unknown not_stored not_denied = idles_to_end wrong (Peer 2 Wrong) refl refl
+posted_wrong p s which BoxFull not_full not_unknown not_stored not_denied = absurd (not_full refl)
+posted_wrong p s which Unknown not_full not_unknown not_stored not_denied = absurd (not_unknown refl)
+posted_wrong p s which (Absent m) not_full not_unknown not_stored not_denied = idles_to_end wrong (Peer 2 Wrong) refl refl
+posted_wrong p s which (Bad kind) not_full not_unknown not_stored not_denied = idles_to_end wrong (Peer 2 Wrong) refl refl
+posted_wrong p s which (Denied d) not_full not_unknown not_stored not_denied = absurd (not_denied d refl)
 
 -- ---- a client that didn't change
 

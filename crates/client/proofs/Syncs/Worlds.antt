@@ -24,6 +24,7 @@ use Rattle.client.specs.Grounds.{Grounds}
 use Rattle.client.specs.InWorlds.{IsIn, StandsFor}
 use Rattle.client.specs.Receipts.{HaveArrived, TellTruly, waits}
 use Rattle.client.specs.Syncing.InWorlds.{AreUnforged, IsKeptIn, IsReachedIn, LeadsTo, SyncsIn, course_in}
+use Rattle.client.specs.Syncing.Keys.{keys_in}
 use Rattle.client.specs.Syncing.Lines.{answer_line, own_box, peers_box}
 use Rattle.client.specs.Syncing.Moments.{Moment}
 use Rattle.client.specs.Syncing.Parties.{client_party, is_inbox_full, oldest_sent, waiting, world_party}
@@ -63,6 +64,7 @@ module _ (k : Mechanism) (grounds : Grounds k) (prefix : List ℕ) (side : Side)
     are : AreAlike mine theirs (IsKeptIn k side) (λ (turn : World) (packet : List ℕ). IsUnforged k turn side packet)
     are = record {
       own = ap own_box is.keeps;
+      keys = ap keys_in is.keeps;
       peers = ap peers_box is.keeps;
       stored_line = λ number. refl;
       end_line = λ which. refl;

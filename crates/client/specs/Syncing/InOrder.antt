@@ -2,7 +2,7 @@
 -- leave until the step of its reply is made. The disks and links between two replies are values of
 -- the types that the caller chose: what is claimed for all such types is claimed for those whose
 -- values are just the states that a disk and a link went through.
-use Rattle.std.specs.Prelude.{Err, List, Ok, Result, Some, [], drop, ℕ, ◌++◌, ◌∷◌, ◌≡◌, ◌≤◌, ◌⊎◌}
+use Rattle.std.specs.Prelude.{Bool, Err, List, Ok, Result, Some, [], drop, false, if◌then◌else◌, not, true, ℕ, ◌&&◌, ◌+◌, ◌++◌, ◌∷◌, ◌≡◌, ◌≤◌, ◌⊎◌}
 use Rattle.std.specs.List.{sum_by}
 use Rattle.dr_disk.specs.Spans.{HavePassed}
 use Rattle.dr_disk.specs.State.{DiskState}
@@ -15,15 +15,17 @@ use Rattle.relay_wire.specs.Requests.{Asked, Asking, acks}
 use Rattle.session_model.specs.Clients.{Client}
 use Rattle.slot_store.specs.Store.{SlotStore}
 use Rattle.sync_model.specs.Carried.{request_bytes}
-use Rattle.sync_model.specs.Courses.{awaited, course_of, made_requests}
-use Rattle.sync_model.specs.Moves.{Wait, asked_in, ended, over, waits_by}
+use Rattle.sync_model.specs.Courses.{asked_now, awaited, course_of, made_requests}
+use Rattle.sync_model.specs.Moves.{Wait, ended, over, waits_by}
 use Rattle.sync_model.specs.Parties.{Party, SideAct, sending, taking}
+use Rattle.sync_model.specs.Tokens.{Tokens}
 use Rattle.sync_model.specs.declared.more.More.{More}
 use Rattle.client.specs.Clients.{ClientNow, IsReady}
 use Rattle.client.specs.Outcomes.{IsReplacing}
 use Rattle.client.specs.declared.syncing.faults.SyncFault.{SyncFault}
 use Rattle.client.specs.declared.syncing.faults.SyncFault.TheVariants.{Store}
 use Rattle.client.specs.Syncing.Moments.{IsCounted, Moment, moment}
+use Rattle.client.specs.Syncing.Rounds.{RoundEnd, goes_on, stops}
 use Rattle.client.specs.Syncing.SoFar.{SoFar}
 use Rattle.client.specs.Syncing.Syncs.{HasRecord, Syncs}
 
@@ -34,11 +36,21 @@ pub record IsAtRestFor (kept : Client) (disk : DiskState) : Type 0 where
 
 -- ---- counted
 
--- acknowledgements among requests, packets that were taken among acts, and packets that the relay
--- keeps among replies
-abbrev pub ack_count : Asking → ℕ
-ack_count (acks number) = 1
-ack_count _ = 0
+abbrev pub is_ack : Asking → Bool
+is_ack (acks number) = true
+is_ack _ = false
+
+-- how many of these requests acknowledge, behind one that does or doesn't: where two do in a row,
+-- the second is the first once more
+abbrev pub acks_after : Bool → List Asked → ℕ
+acks_after behind [] = 0
+acks_after behind (asked ∷ more) =
+    (if is_ack asked.ask && not behind then 1 else 0) + acks_after (is_ack asked.ask) more
+
+abbrev pub acks_among : List Asked → ℕ
+acks_among requests = acks_after false requests
+
+-- packets that were taken among acts, and packets that the relay keeps among replies
 
 abbrev pub take_count : SideAct → ℕ
 take_count (taking packet) = 1
@@ -66,7 +78,7 @@ module _ (p : Party Client) (first : Client) where
   pub record IsTurn (replies : List Replied) (reply : Replied) (disk next : DiskState)
       (link later : Port) : Type 0 where
     pub asked : Asked
-    pub waits : asked_in p (kept_after replies) (course_of p first replies).wait ≡ Some asked
+    pub waits : asked_now p (course_of p first replies) ≡ Some asked
     pub told : Exchanges (reply_text reply) (request_frame asked) link later
     pub during : IsReplacing (kept_after replies) (kept_after (replies ++ reply ∷ [])) disk next
 
@@ -139,7 +151,7 @@ module _ (p : Party Client) (first : Client) where
     pub front : List Replied
     pub reach : (front ≡ replies) ⊎ ((reply : Replied) × (front ≡ replies ++ reply ∷ []))
     pub has : HasRecord (kept_after front) c
-    pub taken : sum_by (λ asked. ack_count asked.ask) (made_requests p (course_of p first replies))
+    pub taken : acks_among (made_requests p (course_of p first replies))
         ≤ sum_by take_count (course_of p first front).acts
     pub gone : ℕ
     pub few : gone ≤ sum_by kept_count front
@@ -163,8 +175,8 @@ module _ {X Y Z : Type 0} (state : X → DiskState) (port : Y → Port) (taken :
   moment_at a = moment a.client (state a.disk) (taken a.sink)
 
   -- a sync so far, reply by reply
-  pub record InOrder (a b : Spot X Y Z) (wait : Wait) : Type 0 where
-    pub far : SoFar p (moment_at a) (moment_at b) (port a.link) (port b.link) wait
+  pub record InOrder (a b : Spot X Y Z) (wait : Wait) (tokens : Tokens) : Type 0 where
+    pub far : SoFar p (moment_at a) (moment_at b) (port a.link) (port b.link) wait tokens
     pub stepped : AreStepped p a.client.kept state port a.disk a.link far.replies b.disk
         b.link
 
@@ -174,11 +186,16 @@ module _ {X Y Z : Type 0} (state : X → DiskState) (port : Y → Port) (taken :
     pub order : EndsInOrder p a.client.kept state port a.disk a.link syncs.replies b.disk
         b.link result
 
-  -- its two parts
-  abbrev pub Collects : Spot X Y Z → Spot X Y Z → Result More SyncFault → Type 0
-  Collects a b (Ok more) = InOrder a b (waits_by (p.outbox b.client.kept) more)
-  Collects a b (Err fault) = SyncsInOrder a b (Err fault)
+  -- where a round leaves it, with the counters then
+  abbrev pub Leaves : Tokens → Spot X Y Z → Spot X Y Z → RoundEnd → Type 0
+  Leaves tokens a b (goes_on wait) = InOrder a b wait tokens
+  Leaves tokens a b (stops fault) = SyncsInOrder a b (Err fault)
 
-  abbrev pub Posts : More → Spot X Y Z → Spot X Y Z → Result Unit SyncFault → Type 0
-  Posts which a b (Ok u) = InOrder a b (over (ended which))
-  Posts which a b (Err fault) = SyncsInOrder a b (Err fault)
+  -- its two parts
+  abbrev pub Collects : Spot X Y Z → Spot X Y Z → Tokens → Result More SyncFault → Type 0
+  Collects a b tokens (Ok more) = InOrder a b (waits_by (p.outbox b.client.kept) more) tokens
+  Collects a b tokens (Err fault) = SyncsInOrder a b (Err fault)
+
+  abbrev pub Posts : More → Spot X Y Z → Spot X Y Z → Tokens → Result Unit SyncFault → Type 0
+  Posts which a b tokens (Ok u) = InOrder a b (over (ended which)) tokens
+  Posts which a b tokens (Err fault) = SyncsInOrder a b (Err fault)

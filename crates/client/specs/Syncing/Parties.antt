@@ -1,5 +1,5 @@
 -- A client as a party of a sync, and a side of a world as one.
-use Rattle.std.specs.Prelude.{Bool, List, false, map, true, ℕ}
+use Rattle.std.specs.Prelude.{Bool, List, Option, false, map, option_map, true, ℕ}
 use Rattle.boxes.specs.Posts.{Post}
 use Rattle.dr_base.specs.declared.position.Side.{Side}
 use Rattle.dr_model.specs.Machines.Acts.{Act, act_on, dropping, taking}
@@ -16,6 +16,9 @@ use Rattle.session_model.specs.declared.answer.Refusal.{Refusal}
 use Rattle.session_model.specs.declared.answer.Refusal.TheVariants.{InboxFull}
 use Rattle.session_model.specs.declared.answer.Which.TheVariants.{Oldest}
 use Rattle.sync_model.specs.Parties.{Party, TookPacket}
+use Rattle.sync_model.specs.Tokens.{SyncKeys}
+use Rattle.client.specs.declared.syncing.keys.Boxes.{Boxes}
+use Rattle.client.specs.Syncing.Keys.{keys_in, keys_seen}
 use Rattle.client.specs.Syncing.Lines.{answer_line, end_line, own_box, peers_box, stored_line}
 
 -- there is no room for the text of a packet
@@ -48,11 +51,12 @@ oldest_sent = dropping (Oldest Packets 1)
 abbrev pub sent_step : Mechanism → Client → Step Client
 sent_step k kept = settled kept (act_on k kept oldest_sent)
 
--- with the names of two boxes
-abbrev pub party_of : Mechanism → List ℕ → List ℕ → List ℕ → Party Client
-party_of k prefix own peers = record {
+-- with the names of two boxes, and the keys of the requests to them
+abbrev pub party_of : Mechanism → List ℕ → List ℕ → List ℕ → Option SyncKeys → Party Client
+party_of k prefix own peers keys = record {
   own = own;
   peers = peers;
+  keys = keys;
   take = λ kept packet. took_by prefix (taken_step k kept packet);
   outbox = waiting;
   sent = λ kept. (sent_step k kept).next;
@@ -60,9 +64,14 @@ party_of k prefix own peers = record {
   end_line = end_line prefix;
 }
 
--- a client with its own box and its peer's
+-- a client with its own box and its peer's, and with its session's keys
 abbrev pub client_party : Mechanism → List ℕ → Client → Party Client
-client_party k prefix first = party_of k prefix (own_box first) (peers_box first)
+client_party k prefix first = party_of k prefix (own_box first) (peers_box first) (keys_in first)
+
+-- with boxes as the code has them
+abbrev pub party_at : Mechanism → List ℕ → Boxes → Party Client
+party_at k prefix boxes =
+    party_of k prefix boxes.names.own boxes.names.peers (option_map keys_seen boxes.keys)
 
 -- ---- in a world
 
@@ -70,6 +79,7 @@ abbrev pub world_party : Mechanism → List ℕ → Side → World → Party Wor
 world_party k prefix side first = record {
   own = own_box (kept_in k first side);
   peers = peers_box (kept_in k first side);
+  keys = keys_in (kept_in k first side);
   take = λ w packet. took_by prefix (act_in k w side (taking packet));
   outbox = λ w. waiting (kept_in k w side);
   sent = λ w. (act_in k w side oldest_sent).next;

@@ -16,6 +16,7 @@ use Rattle.sync_model.specs.Carried.{replied_bytes, request_bytes}
 use Rattle.sync_model.specs.Courses.{course_of}
 use Rattle.sync_model.specs.Moves.{Wait, fetching, waits_by}
 use Rattle.sync_model.specs.Parties.{Party}
+use Rattle.sync_model.specs.Tokens.{Tokens}
 use Rattle.sync_model.specs.declared.limits.TheConstants.{ITEM_LIMIT}
 use Rattle.sync_model.specs.declared.more.More.TheVariants.{More as MoreStands}
 use Rattle.client.specs.Clients.{IsReady, client_area}
@@ -49,17 +50,19 @@ pub record Talked (p : Party Client) (first : Client) (replies : List Replied) (
 abbrev pub Passed : Party Client → List Replied → Moment → Moment → Type 0
 Passed p replies a b = Span a.disk b.disk (IsReached p a.client.kept replies a.disk)
 
--- a sync that waits for this
-pub record SoFar (p : Party Client) (a b : Moment) (start now : Port) (wait : Wait) : Type 0 where
+-- a sync that waits for this, with these counters
+pub record SoFar (p : Party Client) (a b : Moment) (start now : Port) (wait : Wait)
+    (tokens : Tokens) : Type 0 where
   pub replies : List Replied
   pub lawful : AllByRecursion IsLawfulReplied replies
   pub waits : (course_of p a.client.kept replies).wait ≡ wait
+  pub counts : (course_of p a.client.kept replies).tokens ≡ tokens
   pub stands : Stands p replies a b
   pub talked : Talked p a.client.kept replies start now
   pub wrote : Wrote (course_of p a.client.kept replies).lines a b
   pub passed : Passed p replies a b
 
--- in the first part, once this many packets are acknowledged: the packets that wait are next where these are as many as a sync
--- acknowledges
+-- in the first part, once this many packets are acknowledged: the packets that wait are next where
+-- these are as many as a sync acknowledges
 abbrev pub collecting : List (List ℕ) → ℕ → Wait
 collecting packets n = if n == ITEM_LIMIT then waits_by packets MoreStands else fetching n

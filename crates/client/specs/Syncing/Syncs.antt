@@ -19,8 +19,8 @@ use Rattle.session_model.specs.Clients.{Client}
 use Rattle.session_record.specs.Record.{record_text}
 use Rattle.slot_store.specs.Records.{stored_record}
 use Rattle.sync_model.specs.Carried.{replied_bytes, request_bytes}
-use Rattle.sync_model.specs.Courses.{all_lines, course_of, made_requests}
-use Rattle.sync_model.specs.Moves.{Ending, asked_in, ended, over}
+use Rattle.sync_model.specs.Courses.{all_lines, asked_now, course_of, made_requests}
+use Rattle.sync_model.specs.Moves.{Ending, ended, over}
 use Rattle.sync_model.specs.Parties.{Party}
 use Rattle.sync_model.specs.declared.more.More.{More}
 use Rattle.client.specs.Clients.{client_area}
@@ -35,7 +35,7 @@ use Rattle.client.specs.Syncing.SoFar.{Passed, Stands, Talked}
 -- the call that failed took a beginning of the request, and less than a frame came
 pub record IsRequestCut (p : Party Client) (first : Client) (replies : List Replied) (start now : Port) : Type 0 where
   pub asked : Asked
-  pub waits : asked_in p (course_of p first replies).state (course_of p first replies).wait ≡ Some asked
+  pub waits : asked_now p (course_of p first replies) ≡ Some asked
   pub put : List ℕ
   pub left : List ℕ
   pub rest : List ℕ
@@ -52,7 +52,7 @@ pub data IsNoReply (now : Port) (rest : List ℕ) : PeerFault → Type 0 where
 
 pub record IsUnheard (p : Party Client) (first : Client) (replies : List Replied) (start now : Port) (fault : PeerFault) : Type 0 where
   pub asked : Asked
-  pub waits : asked_in p (course_of p first replies).state (course_of p first replies).wait ≡ Some asked
+  pub waits : asked_now p (course_of p first replies) ≡ Some asked
   pub rest : List ℕ
   pub told : Exchanges (replied_bytes replies ++ rest) (request_bytes (made_requests p (course_of p first replies))) start now
   pub waited : length (course_of p first replies).requests ≡ length replies

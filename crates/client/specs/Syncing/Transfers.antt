@@ -1,9 +1,10 @@
 -- A sync whose replies are those of a relay.
-use Rattle.std.specs.Prelude.{All, List, None, Some, [], length, ℕ, ◌++◌, ◌≡◌}
+use Rattle.std.specs.Prelude.{All, List, Some, [], length, ℕ, ◌+◌, ◌*◌, ◌++◌, ◌≡◌}
 use Rattle.dr_base.specs.Causes.{Rose}
 use Rattle.dr_disk.specs.declared.call.Call.{Call}
 use Rattle.dr_ports.specs.Wires.{Port, Told}
 use Rattle.dr_ports.specs.declared.pipe.Part.TheVariants.{Flow}
+use Rattle.relay_guard.specs.declared.guard.Role.TheVariants.{Owner}
 use Rattle.relay_core.specs.Boxes.{Box, box_of}
 use Rattle.relay_core.specs.Lawful.{IsLawfulBox}
 use Rattle.relay_core.specs.Streams.{reply_bytes, served}
@@ -13,19 +14,20 @@ use Rattle.sync_model.specs.Carried.{IsCarried, request_bytes}
 use Rattle.sync_model.specs.Courses.{course_of}
 use Rattle.sync_model.specs.Moves.{Ending, ended, over}
 use Rattle.sync_model.specs.Parties.{Party}
-use Rattle.sync_model.specs.Transfers.{HasRoomForAll, HasRoom, emptied, with_posts, sent_all, taken_all}
+use Rattle.sync_model.specs.Transfers.{HasCounters, HasRoom, HasRoomForAll, IsGuardedFor, collected, posted, sent_all, taken_all}
 use Rattle.sync_model.specs.declared.more.More.TheVariants.{End}
 use Rattle.client.specs.Syncing.Moments.{Moment}
 
 -- ---- the relay, its link, and no fault
 
--- the relay has the client's box and its peer's, among lawful ones, and neither has a guard
+-- the relay has the client's box and its peer's, among lawful ones; where the own one has a guard,
+-- it has the sync's key, and counters left
 pub record HasBoxes (p : Party Client) (boxes : List Box) (own peers : Box) : Type 0 where
   pub lawful : All IsLawfulBox boxes
   pub own_box : box_of p.own boxes ≡ Some own
   pub peers_box : box_of p.peers boxes ≡ Some peers
-  pub own_open : own.guard ≡ None
-  pub peers_open : peers.guard ≡ None
+  pub own_guard : IsGuardedFor p.keys Owner own.guard
+  pub own_counters : HasCounters Owner (2 * length own.packets + 1) own.guard
 
 -- after what it gave so far, the link gives what a relay with these boxes replies to all that is sent from now on
 pub record CarriesReplies (boxes : List Box) (start : Port) : Type 0 where
@@ -50,7 +52,7 @@ pub record HaveAnswered (p : Party Client) (first : Client) (replies : List Repl
 pub record Collected (p : Party Client) (first : Client) (replies : List Replied) (boxes : List Box) (own : Box) : Type 0 where
   pub after : List Box
   pub answered : HaveAnswered p first replies boxes after
-  pub own_box : box_of p.own after ≡ Some (emptied own)
+  pub own_box : box_of p.own after ≡ Some (collected own)
   pub count : ℕ
   pub keeps : (course_of p first replies).state ≡ sent_all p count (taken_all p first own.packets)
 
@@ -60,8 +62,8 @@ pub record Delivered (p : Party Client) (first : Client) (replies : List Replied
   pub ends : (course_of p first replies).wait ≡ over (ended End)
   pub after : List Box
   pub answered : HaveAnswered p first replies boxes after
-  pub own_box : box_of p.own after ≡ Some (emptied own)
-  pub peers_box : box_of p.peers after ≡ Some (with_posts peers (p.outbox first))
+  pub own_box : box_of p.own after ≡ Some (collected own)
+  pub peers_box : box_of p.peers after ≡ Some (posted peers (p.outbox first))
   pub keeps : (course_of p first replies).state ≡ sent_all p (length (p.outbox first)) (taken_all p first own.packets)
   pub leaves : (course_of p first replies).state.outbox ≡ []
 
@@ -75,7 +77,7 @@ IsPast p first replies = (ending : Ending) × ((course_of p first replies).wait 
 abbrev pub Transfers : Party Client → Client → List Replied → Type 0
 Transfers p first replies = (boxes : List Box) (own peers : Box) → HasBoxes p boxes own peers → HasRoom p first own.packets
     → IsCarried p first boxes replies → IsPast p first replies
-    → Collected p first replies boxes own × (HasRoomForAll (p.outbox first) peers → Delivered p first replies boxes own peers)
+    → Collected p first replies boxes own × (HasRoomForAll p.keys (p.outbox first) peers → Delivered p first replies boxes own peers)
 
 -- ---- over a link that tells
 

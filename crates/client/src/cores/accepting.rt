@@ -1,8 +1,10 @@
 //! A draft is accepted: the core changes as it says.
 
-ghost use Rattle.std.specs.Prelude.{◌≡◌, ◌≤◌};
+ghost use Rattle.std.specs.Prelude.{◌≡◌, ◌≤◌, true};
+ghost use Rattle.std.specs.List.{list_any};
+ghost use Rattle.boxes.specs.Entries.{is_of};
 ghost use Rattle.dr_model.specs.Machines.Acts.{dropped_client, standing_with};
-ghost use Rattle.session_model.specs.declared.answer.Which.TheVariants.{Oldest};
+ghost use Rattle.session_model.specs.declared.answer.Which.TheVariants.{OfId, Oldest};
 ghost use Rattle.client.specs.Drafting.{HasToDrop, IsDraftOf, IsReceivedOf, IsSaidOf, drafted_client, received_client, said_client};
 
 use super::drafts::Draft;
@@ -46,14 +48,23 @@ impl<K: Kem> Core<K> {
         draft.accept(&mut self.session);
     }
 
-    #[tactic(auto, using(session_model::proofs::Leaving::enough_held))]
+    #[tactic(auto, using(session_model::proofs::Leaving::enough_held, session_model::proofs::Leaving::any_stand))]
     fn accept_dropped(&mut self, which: Which)
         requires { HasToDrop self.old which }
         ensures { self.new ≡ dropped_client self.old which }
     {
         match which {
             Which::Oldest(items, n) => self.drop_first(items, n),
+            Which::OfId(id) => self.drop_long(id),
         }
+    }
+
+    /// Drops the parts of a long text.
+    fn drop_long(&mut self, id: u32)
+        requires { list_any (is_of id) self.old.inbox ≡ true }
+        ensures { self.new ≡ dropped_client self.old (OfId id) }
+    {
+        self.inbox.drop_long(id).unwrap();
     }
 
     /// Drops the `n` oldest items of a box.

@@ -1,22 +1,24 @@
 //! The steps of a core are drafted: a text that is said, a packet that is taken, and items that are
 //! dropped.
 
-ghost use Rattle.std.specs.Prelude.{◌≡◌, Ok, IfOk, IfErr, is_some, length};
+ghost use Rattle.std.specs.Prelude.{◌≡◌, Ok, IfOk, IfErr, is_some};
 ghost use Rattle.dr_model.specs.Machines.Acts.{act_on, dropped_client, dropping, standing_with};
 ghost use Rattle.dr_model.specs.Machines.Steps.{leaving};
 ghost use Rattle.ratchet.specs.Seen.{received_of, said_of, seed_bytes};
 ghost use Rattle.session_model.specs.Clients.{accept_send, say_check, say_on};
+ghost use Rattle.session_model.specs.Contents.{content_with};
 ghost use Rattle.session_model.specs.Drafts.{IsReceiveDraft, IsSendDraft};
 ghost use Rattle.session_model.specs.LawfulStates.{IsLawfulState};
-ghost use Rattle.session_model.specs.Leaving.{drop_check, enough};
+ghost use Rattle.session_model.specs.Leaving.{any_of, drop_check, enough};
 ghost use Rattle.client.specs.Drafting.{DraftsFor, IsReceivedOf, IsSaidOf, said_if};
 
 use super::showing::Core;
-use dr_base::{INBOX_LIMIT, Key32, OUTBOX_LIMIT, TEXT_LIMIT};
+use boxes::Inbox;
+use dr_base::{INBOX_LIMIT, Key32, OUTBOX_LIMIT};
 use kem_laws::{Kem, laws};
 use packet::parse;
 use ratchet::{NoPairFor, OpeningRoom, PacketRoom, ReceiveDraft, SendDraft, Session};
-use session_model::{Items, LentPart, Refusal, Which};
+use session_model::{Items, LentPart, Refusal, Which, content_check};
 
 /// A part is a lawful state: a caller that needs this calls it.
 pub(super) fn lawful_part<K: Kem>(part: &LentPart<'_, K>)
@@ -51,42 +53,60 @@ fn enough(n: u32, held: u32) -> Result<(), Refusal>
     Err(Refusal::Fewer(held))
 }
 
+/// Whether a part of the long text stands.
+fn any_of(inbox: &Inbox, id: u32) -> Result<(), Refusal>
+    ensures { result ≡ any_of id inbox.now }
+{
+    if inbox.has_long(id) {
+        return Ok(());
+    }
+    Err(Refusal::NoLong)
+}
+
 impl<K: Kem> Core<K> {
-    /// Whether a text of this length may be said, and then whether that needs a seed.
-    pub fn say_check(&self, len: usize) -> Result<bool, Refusal>
-        ensures { result ≡ say_check self.now len }
+    /// Whether bytes of a kind may be said, a text or a part of a long one, and then whether that
+    /// needs a seed: `NoParts` comes first, exactly where this is a lawful part and the session's
+    /// format isn't `Receipts`.
+    pub fn say_check(&self, kind: u8, text: &[u8]) -> Result<bool, Refusal>
+        ensures { result ≡ say_check self.now (content_with kind text.now) }
     {
-        if len > TEXT_LIMIT {
-            return Err(Refusal::TextTooLong(len));
+        let part = self.session.part();
+        match content_check(part.head.format, kind, text) {
+            Err(refusal) => return Err(refusal.into()),
+            Ok(()) => {}
         }
         if self.outbox.len() as usize >= OUTBOX_LIMIT {
             return Err(Refusal::OutboxFull);
         }
-        match self.session.send_check(len) {
+        match self.session.send_check(kind, text) {
             Ok(needs_seed) => Ok(needs_seed),
             Err(refusal) => Err(refusal.into()),
         }
     }
 
-    /// Drafts a text that `say_check` allows, with a seed exactly where it asks for one. Its packet
-    /// stands in the room.
+    /// Drafts bytes of a kind that `say_check` allows, with a seed exactly where it asks for one.
+    /// Their packet stands in the room.
     // Inlined, the draft is built where the caller keeps it.
     #[inline(always)]
     pub fn draft_say<'a>(
         &mut self,
+        kind: u8,
         text: &[u8],
         seed: Option<Key32>,
         room: &'a mut PacketRoom,
     ) -> Result<SendDraft<'a, K>, NoPairFor>
-        requires { say_check self.old (length text.now) ≡ Ok (is_some seed) }
-        ensures exact { say_on K.mechanism self.old text.now (seed_bytes seed)
+        requires { say_check self.old (content_with kind text.now) ≡ Ok (is_some seed) }
+        ensures exact { say_on K.mechanism self.old (content_with kind text.now) (seed_bytes seed)
             ≡ accept_send self.old (said_if self.old.state result) }
         ensures draft { IfOk result (IsSaidOf K.mechanism self.old) }
         ensures seed { IfErr result (λ e. seed ≡ Some e.seed) }
         ensures same { self.new ≡ self.old }
     {
         laws::<K>();
-        match self.session.draft_send(&mut self.work, text, seed, room) {
+        match self
+            .session
+            .draft_send(&mut self.work, kind, text, seed, room)
+        {
             Err(none) => Err(none),
             Ok(draft) => {
                 lawful_said(&draft, &self.session);
@@ -136,7 +156,8 @@ impl<K: Kem> Core<K> {
         }
     }
 
-    /// Whether a box has what is to leave it: `Fewer` exactly where fewer stand.
+    /// Whether a box has what is to leave it: `Fewer` exactly where fewer stand, `NoLong` exactly
+    /// where no part of the long text does.
     pub fn drop_check(&self, which: Which) -> Result<(), Refusal>
         ensures value { result ≡ drop_check which self.now.inbox self.now.outbox }
         ensures exact { act_on K.mechanism self.now (dropping which)
@@ -144,6 +165,7 @@ impl<K: Kem> Core<K> {
     {
         match which {
             Which::Oldest(items, n) => enough(n, self.standing(items)),
+            Which::OfId(id) => any_of(&self.inbox, id),
         }
     }
 }

@@ -15,7 +15,8 @@ impl<K: Kem> Core<K> {
         ensures { PutsRecord self.now out.old out.new result }
     {
         let part = self.session.part();
-        encode(&part, &self.inbox, &self.outbox, &Change::Same, out)
+        let keys = self.keys.as_ref();
+        encode(&part, &self.inbox, &self.outbox, &Change::Same, keys, out)
     }
 
     /// Writes the record of what it will keep once a draft is accepted, and answers its length.
@@ -25,11 +26,13 @@ impl<K: Kem> Core<K> {
         ensures { PutsRecord (drafted_client self.now draft.now) out.old out.new result }
     {
         let written = self.written(draft);
+        let keys = self.keys.as_ref();
         encode(
             &written.part,
             &self.inbox,
             &self.outbox,
             &written.change,
+            keys,
             out,
         )
     }

@@ -14,7 +14,8 @@ impl<K: Kem> Core<K> {
         ensures { HasRecordLength self.now result }
     {
         let part = self.session.part();
-        encoded_len(&part, &self.inbox, &self.outbox, &Change::Same)
+        let keys = self.keys.as_ref();
+        encoded_len(&part, &self.inbox, &self.outbox, &Change::Same, keys)
     }
 
     /// How many bytes the record has of what it will keep once a draft is accepted.
@@ -23,6 +24,13 @@ impl<K: Kem> Core<K> {
         ensures { HasRecordLength (drafted_client self.now draft.now) result }
     {
         let written = self.written(draft);
-        encoded_len(&written.part, &self.inbox, &self.outbox, &written.change)
+        let keys = self.keys.as_ref();
+        encoded_len(
+            &written.part,
+            &self.inbox,
+            &self.outbox,
+            &written.change,
+            keys,
+        )
     }
 }

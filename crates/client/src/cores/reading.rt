@@ -11,17 +11,18 @@ use super::showing::Core;
 use super::starting::CoreRoom;
 use kem_laws::Kem;
 use ratchet::Session;
-use session_model::SessionPart;
+use session_model::{RelayKeys, SessionPart};
 use session_record::decode;
 use slot_store::Grammar;
 use std::alloc::{AllocError, Global};
 
 /// A reader of a client's record: the memory of a core, whose boxes are filled, and the session
-/// once one was read.
+/// once one was read, with the keys of its boxes at a relay.
 #[derive(Drop)]
 pub struct RecordReader<K: Kem> {
     pub(crate) room: CoreRoom<K>,
     pub(crate) session: Option<Session<K>>,
+    pub(crate) keys: Option<RelayKeys>,
 }
 
 /// Keeps the session of a part. A function of its own, so that its room isn't set while a record is
@@ -39,12 +40,13 @@ impl<K: Kem> Grammar for RecordReader<K> {
     ghost is_new = { λ r. HasReadNothing r.session r.room.inbox r.room.outbox };
 
     ghost has_read = { λ r text. HasReadClient K.mechanism
-        r.session r.room.inbox r.room.outbox text };
+        r.session r.room.inbox r.room.outbox r.keys text };
 
     fn read(&mut self, text: &[u8]) -> Result<(), u32> {
         match decode::<K>(text, &mut self.room.inbox, &mut self.room.outbox) {
-            Ok(part) => {
+            Ok((part, keys)) => {
                 keep_part(&mut self.session, part);
+                self.keys = keys;
                 Ok(())
             }
             Err(damaged) => Err(damaged.at as u32),
@@ -61,6 +63,7 @@ impl<K: Kem> RecordReader<K> {
         Ok(RecordReader {
             room,
             session: None,
+            keys: None,
         })
     }
 
@@ -68,9 +71,9 @@ impl<K: Kem> RecordReader<K> {
     pub fn into_core(self) -> Core<K>
         requires some { is_some self.session ≡ true }
         requires lawful { (s : State) → self.session ≡ Some s
-            → IsLawfulClient K.mechanism (client_of s self.room.inbox self.room.outbox) }
+            → IsLawfulClient K.mechanism (client_of s self.room.inbox self.room.outbox self.keys) }
         ensures { (s : State) → self.session ≡ Some s
-            → result ≡ client_of s self.room.inbox self.room.outbox }
+            → result ≡ client_of s self.room.inbox self.room.outbox self.keys }
     {
         let RecordReader {
             room: CoreRoom {
@@ -79,12 +82,14 @@ impl<K: Kem> RecordReader<K> {
                 work,
             },
             session,
+            keys,
         } = self;
         match session {
             Some(session) => Core {
                 session,
                 inbox,
                 outbox,
+                keys,
                 work,
             },
             None => unreachable!(),

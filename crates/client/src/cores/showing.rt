@@ -6,8 +6,9 @@ ghost use Rattle.dr_base.specs.declared.limits.TheConstants.{PACKET_LIMIT, TEXT_
 use boxes::{Entry, Inbox, Outbox};
 use dr_base::{Position, Side};
 use kem_laws::Kem;
+use long_text::{LONG_LIMIT, LongRefusal, long};
 use ratchet::Session;
-use session_model::Summary;
+use session_model::{RelayKeys, Summary};
 use std::marker::Model;
 
 /// A side of a conversation in memory: its session and its boxes, without a store. A contract sees
@@ -20,6 +21,8 @@ pub struct Core<K: Kem> {
     pub(crate) session: Session<K>,
     pub(crate) inbox: Inbox,
     pub(crate) outbox: Outbox,
+    /// The keys of its boxes at a relay.
+    pub(crate) keys: Option<RelayKeys>,
     pub(crate) work: K::Work,
 }
 
@@ -31,14 +34,17 @@ impl<K: Kem> Model for Core<K> {
     ghost use Rattle.session_record.specs.Lawful.{IsLawfulClient};
     ghost use Rattle.session_record.specs.Record.{client_of};
 
-    ghost view = { λ c. client_of c.session c.inbox c.outbox };
+    ghost view = { λ c. client_of c.session c.inbox c.outbox c.keys };
 
-    ghost invariant = { λ c. IsLawfulClient K.mechanism (client_of c.session c.inbox c.outbox) };
+    ghost invariant = { λ c. IsLawfulClient K.mechanism
+        (client_of c.session c.inbox c.outbox c.keys) };
 }
 
 impl<K: Kem> Core<K> {
     ghost use Rattle.boxes.specs.Posts.{post_under};
     ghost use Rattle.boxes.specs.Seen.{entry_seen};
+    ghost use Rattle.long_text.specs.Longs.{long_of};
+    ghost use Rattle.long_text.specs.Seen.{Fills};
     ghost use Rattle.session_model.specs.Clients.{summary_of};
     ghost use Rattle.session_record.specs.Lawful.{IsLawfulClient};
 
@@ -67,6 +73,13 @@ impl<K: Kem> Core<K> {
         self.inbox.at(at)
     }
 
+    /// Joins the parts of a long text that stand in the inbox, as `long_text::long` does.
+    pub fn long(&self, id: u32, into: &mut [u8; LONG_LIMIT]) -> Result<usize, LongRefusal>
+        ensures { Fills into.old into.new result (long_of id self.now.inbox) }
+    {
+        long(&self.inbox, id, into)
+    }
+
     /// The packet of the outbox at a place, from 0, the oldest first.
     pub fn outbox(&self, at: usize) -> Option<(Position, &[u8])>
         ensures variant { IsSome result ↔ (at < length self.now.outbox) }
@@ -92,6 +105,17 @@ impl<K: Kem> Core<K> {
     {
         let part = self.session.part();
         part.head.awaiting.positions().get(at).copied()
+    }
+
+    /// The keys of its session's boxes at a relay: the owner's and the poster's of box 1, then those
+    /// of box 2. None where the session was begun before there were any.
+    pub fn relay_keys(&self) -> Option<RelayKeys>
+        ensures { result ≡ self.now.relay }
+    {
+        match &self.keys {
+            Some(keys) => Some(keys.copied()),
+            None => None,
+        }
     }
 
     /// What the core keeps is lawful, so its record is read as just that, and no packet of the

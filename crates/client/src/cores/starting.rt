@@ -12,6 +12,7 @@ use boxes::{Inbox, Outbox};
 use dr_base::{Key32, Side};
 use kem_laws::{Kem, NoPair, laws};
 use ratchet::Session;
+use session_model::{RelayKeys, are_long};
 use std::alloc::{AllocError, Global};
 
 /// The memory of a core: its boxes, which are empty, and its mechanism's room.
@@ -55,10 +56,13 @@ impl<K: Kem> CoreRoom<K> {
             Err(NoPair) => Err(NoPair),
             Ok(session) => {
                 lawful_part(&session.part());
+                let keys = RelayKeys::of(key);
+                are_long(&keys);
                 Ok(Core {
                     session,
                     inbox,
                     outbox,
+                    keys: Some(keys),
                     work,
                 })
             }

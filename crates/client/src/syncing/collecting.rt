@@ -1,31 +1,30 @@
 //! The first part of a sync: the packets of the own box are taken.
 
-ghost use Rattle.std.specs.Prelude.{◌≡◌, ◌≤◌, ℕ, IfOk, List};
+ghost use Rattle.std.specs.Prelude.{◌≡◌, ◌+◌, ◌≤◌, ℕ, List, option_map};
 ghost use Rattle.relay_pipe.specs.Asking.{LeavesLink};
-ghost use Rattle.relay_wire.specs.Replies.{item};
-ghost use Rattle.relay_wire.specs.Requests.{acks, fetches, bare_request};
+ghost use Rattle.relay_wire.specs.Requests.{acks, bare_request};
 ghost use Rattle.relay_wire.specs.Seen.{replied_of};
 ghost use Rattle.session_model.specs.Clients.{Client as Kept};
-ghost use Rattle.sync_model.specs.Moves.{acking, acknowledged, fetching, move};
+ghost use Rattle.sync_model.specs.Moves.{acking, acknowledged, move};
 ghost use Rattle.sync_model.specs.Parties.{Party};
-ghost use Rattle.client.specs.Clients.{IsOpenOn};
-ghost use Rattle.client.specs.Drafting.{DraftsFor, IsReceivedOf};
-ghost use Rattle.client.specs.Syncing.Moments.{moment};
-ghost use Rattle.client.specs.Syncing.Parties.{party_of, waiting};
-ghost use Rattle.client.specs.Syncing.Rounds.{Hears, Idles, IsRound, MovesTo, fetched_as, round_turn};
-ghost use Rattle.client.specs.Syncing.InOrder.{Collects, spot};
+ghost use Rattle.sync_model.specs.Tokens.{first_tokens};
+ghost use Rattle.client.specs.Clients.{ClientNow, IsOpenOn};
+ghost use Rattle.client.specs.Syncing.InOrder.{Collects, InOrder, Leaves, spot};
+ghost use Rattle.client.specs.Syncing.Keys.{keys_seen};
+ghost use Rattle.client.specs.Syncing.Parties.{party_at, waiting};
+ghost use Rattle.client.specs.Syncing.Rounds.{AcksOnce, Hears, Idles, acked_as, heard_as, round_turn};
+ghost use Rattle.client.specs.Syncing.SoFar.{collecting};
 
 use super::faults::{SyncFault, SyncRefusal, WRONG};
-use super::lines::answered;
-use super::naming::Names;
-use super::steps::ask_for;
+use super::keys::Boxes;
+use super::steps::{Acked, ask_for};
+use super::tokens::Tokens;
 use crate::client::Client;
 use dr_disk::Disk;
 use dr_ports::{Pipe, Sink};
 use kem_laws::Kem;
-use ratchet::{OpeningRoom, ReceiveDraft};
+use ratchet::OpeningRoom;
 use relay_wire::{Reply, Request};
-use session_model::{Answer, Refusal};
 use sync_model::{ITEM_LIMIT, More};
 
 /// What an acknowledgement is answered with. That the packet is absent counts as that it was
@@ -39,99 +38,66 @@ fn acknowledged(reply: Reply<'_>, number: u64) -> Result<(), SyncFault>
         Reply::Acked => Ok(()),
         Reply::Absent(other) => { if other == number { Ok(()) } else { Err(WRONG) } }
         Reply::Unknown => Err(SyncFault::Refused(SyncRefusal::Unknown)),
+        Reply::Denied(denied) => Err(SyncFault::Refused(SyncRefusal::Denied { rule: denied.rule })),
         _ => Err(WRONG),
     }
 }
 
 impl<K: Kem> Client<K> {
-    /// Takes what was drafted for a packet that came under a number.
-    // Inlined, so that the draft stays where it is.
-    #[inline(always)]
-    fn collect<D: Disk, O: Sink>(
-        &mut self,
-        disk: &mut D,
-        out: &mut O,
-        prefix: &str,
-        number: u64,
-        drafted: Result<ReceiveDraft<'_, K>, Refusal>,
-    ) -> Result<Option<u64>, SyncFault>
-        requires drafted { IfOk drafted (IsReceivedOf K.mechanism self.old.kept) }
-        requires open { IsOpenOn self.old (D.state disk.old) }
-        ensures turns { (own peers : List ℕ) (n : ℕ) (packet : List ℕ)
-            → DraftsFor K.mechanism self.old.kept packet drafted.entry
-            → MovesTo (move (party_of K.mechanism prefix.now own peers) self.old.kept
-            (fetching n) (item number packet))
-            (moment self.old (D.state disk.old) (O.at out.old))
-            (moment self.new (D.state disk.new) (O.at out.new))
-            (fetched_as (waiting self.new.kept) n result) }
-        ensures later { (O.at out.old).faults ≤ (O.at out.new).faults }
-    {
-        match self.take_packet(disk, drafted) {
-            Err(call) => Err(SyncFault::Store { call }),
-            Ok(answer) => match answered(out, prefix, answer) {
-                Err(fault) => Err(fault),
-                Ok(()) => Ok(Some(number)),
-            },
-        }
-    }
-
-    /// Fetches the oldest packet of the own box and takes it: its number, or nothing where the box
-    /// is empty. It is drafted while it stands in the reader.
-    fn fetch<D: Disk, L: Pipe, O: Sink>(
-        &mut self,
-        disk: &mut D,
-        link: &mut L,
-        out: &mut O,
-        prefix: &str,
-        names: &Names,
-        room: &mut OpeningRoom,
-    ) -> Result<Option<u64>, SyncFault>
-        requires { IsOpenOn self.old (D.state disk.old) }
-        ensures round { (n : ℕ)
-            → IsRound (party_of K.mechanism prefix.now names.now.own names.now.peers)
-            (fetching n) (bare_request names.now.own fetches)
-            (moment self.old (D.state disk.old) (O.at out.old))
-            (moment self.new (D.state disk.new) (O.at out.new))
-            (L.port link.old) (L.port link.new) (fetched_as (waiting self.new.kept) n result) }
-        ensures later { (O.at out.old).faults ≤ (O.at out.new).faults }
-        ensures link { LeavesLink L.port L.behind link.old link.new }
-    {
-        match ask_for(link, &mut self.reader, &Request::fetch(names.own.lent())) {
-            Err(fault) => Err(fault),
-            Ok(reply) => match reply {
-                Reply::Empty => Ok(None),
-                Reply::Item(number, packet) => {
-                    let drafted = self.core.draft_take(packet.bytes(), room);
-                    self.collect(disk, out, prefix, number, drafted)
-                }
-                Reply::Unknown => Err(SyncFault::Refused(SyncRefusal::Unknown)),
-                _ => Err(WRONG),
-            },
-        }
-    }
-
-    /// Acknowledges a packet that was taken.
+    /// Asks that a packet is dropped that was taken.
     fn acknowledge<L: Pipe>(
         &mut self,
         link: &mut L,
-        names: &Names,
+        boxes: &Boxes,
+        tokens: &mut Tokens,
         number: u64,
-    ) -> Result<(), SyncFault>
+    ) -> Result<Acked, SyncFault>
         ensures round { (p : Party Kept) (kept : Kept) (n : ℕ) →
-            Hears (bare_request names.now.own (acks number)) (L.port link.old)
-            (L.port link.new)
-            (λ reply turn. Idles p kept (move p kept (acking n number) reply) turn) (Unit {0})
-            (round_turn (acknowledged p kept n).wait result) }
+            Hears (option_map keys_seen boxes.now.keys) tokens.old tokens.new
+            (bare_request boxes.now.names.own (acks number)) (L.port link.old) (L.port link.new)
+            (λ reply again turn. Idles p kept (heard_as p kept (acking n number) reply again) turn)
+            (Unit {0}) (acked_as (acknowledged p kept n).wait n number result) }
+        ensures once { AcksOnce tokens.old tokens.new result }
         ensures same { self.new ≡ self.old }
         ensures link { LeavesLink L.port L.behind link.old link.new }
     {
-        match ask_for(
-            link,
-            &mut self.reader,
-            &Request::ack(names.own.lent(), number),
-        ) {
-            Err(fault) => Err(fault),
-            Ok(reply) => acknowledged(reply, number),
+        let request = Request::ack(boxes.names.own.lent(), number);
+        match ask_for(link, &mut self.reader, &boxes.keys, tokens, request) {
+            Err(fault) => return Err(fault),
+            Ok(None) => return Ok(Acked::Again),
+            Ok(Some(reply)) => match acknowledged(reply, number) {
+                Err(fault) => return Err(fault),
+                Ok(()) => return Ok(Acked::Done),
+            },
+        }
+    }
+
+    /// Acknowledges a packet that was taken, until that isn't to be made once more.
+    fn acknowledge_through<D: Disk, L: Pipe, O: Sink>(
+        &mut self,
+        link: &mut L,
+        boxes: &Boxes,
+        tokens: &mut Tokens,
+        number: u64,
+    ) -> Result<(), SyncFault>
+        // On a disk and with a sink that it leaves alone.
+        ensures goes { (prefix : List ℕ) (n : ℕ) (first : ClientNow) (before disk : D)
+            (earlier : L) (empty out : O) →
+            InOrder D.state L.port O.at (party_at K.mechanism prefix boxes.now)
+            (spot first before earlier empty) (spot self.old disk link.old out)
+            (acking n number) tokens.old
+            → Leaves D.state L.port O.at (party_at K.mechanism prefix boxes.now) tokens.new
+            (spot first before earlier empty) (spot self.new disk link.new out)
+            (round_turn (collecting (waiting self.new.kept) (n + 1)) result) }
+        ensures same { self.new ≡ self.old }
+        ensures link { LeavesLink L.port L.behind link.old link.new }
+    {
+        'again: loop {
+            match self.acknowledge(link, boxes, tokens, number) {
+                Err(fault) => return Err(fault),
+                Ok(Acked::Done) => return Ok(()),
+                Ok(Acked::Again) => {}
+            }
         }
     }
 
@@ -142,26 +108,30 @@ impl<K: Kem> Client<K> {
         link: &mut L,
         out: &mut O,
         prefix: &str,
-        names: &Names,
+        boxes: &Boxes,
+        tokens: &mut Tokens,
     ) -> Result<More, SyncFault>
-        requires { IsOpenOn self.old (D.state disk.old) }
+        requires open { IsOpenOn self.old (D.state disk.old) }
+        requires first { tokens.old ≡ first_tokens }
         ensures collects { Collects D.state L.port O.at
-            (party_of K.mechanism prefix.now names.now.own names.now.peers)
+            (party_at K.mechanism prefix.now boxes.now)
             (spot self.old disk.old link.old out.old) (spot self.new disk.new link.new out.new)
-            result }
+            tokens.new result }
         ensures later { (O.at out.old).faults ≤ (O.at out.new).faults }
         ensures link { LeavesLink L.port L.behind link.old link.new }
     {
         let mut room = OpeningRoom::new();
         let mut count = 0;
         'items: while count < ITEM_LIMIT {
-            match self.fetch(disk, link, out, prefix, names, &mut room) {
+            match self.fetch_through(disk, link, out, prefix, boxes, tokens, &mut room) {
                 Err(fault) => return Err(fault),
                 Ok(None) => return Ok(More::End),
-                Ok(Some(number)) => match self.acknowledge(link, names, number) {
-                    Err(fault) => return Err(fault),
-                    Ok(()) => count += 1,
-                },
+                Ok(Some(number)) => {
+                    match self.acknowledge_through::<D, L, O>(link, boxes, tokens, number) {
+                        Err(fault) => return Err(fault),
+                        Ok(()) => count += 1,
+                    }
+                }
             }
         }
         Ok(More::More)

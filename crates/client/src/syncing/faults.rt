@@ -16,6 +16,9 @@ pub enum SyncRefusal {
     /// The relay has no box of that name.
     #[error("the relay has no such box")]
     Unknown,
+    /// The box doesn't serve the request, by this rule.
+    #[error("the relay denies the request")]
+    Denied { rule: u8 },
 }
 
 /// Why a sync broke off. What was done before stands.

@@ -1,6 +1,6 @@
 //! The names of a client's boxes at a relay.
 
-ghost use Rattle.std.specs.Prelude.{◌≡◌, true};
+ghost use Rattle.std.specs.Prelude.{◌≡◌, length, true};
 ghost use Rattle.relay_wire.specs.Names.{is_name};
 ghost use Rattle.client.specs.Syncing.Lines.{box_name, own_box, peers_box};
 
@@ -17,10 +17,11 @@ pub struct Names {
     pub peers: Name,
 }
 
-/// The name of a side's box, in bytes.
+/// The name of a side's box, in bytes: the session in hex digits, a dash and the side's number.
 #[tactic(auto, unfolding(crate::specs::Syncing::Lines::box_name))]
-fn box_bytes(session: &[u8; 16], side: Side) -> OutputLine
-    ensures { result ≡ box_name session.now side }
+pub fn box_bytes(session: &[u8; 16], side: Side) -> OutputLine
+    ensures name { result ≡ box_name session.now side }
+    ensures len { length result ≡ 34 }
 {
     let mut digits = [0; 32];
     hex::encode_to_slice(session, &mut digits).unwrap();

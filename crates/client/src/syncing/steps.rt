@@ -1,23 +1,28 @@
 //! What a sync has a client do, and what it asks of the relay.
 
-ghost use Rattle.std.specs.Prelude.{◌≡◌, ◌<◌, ◌≤◌, IfOk, OnOk, Some, length, slice_get, true};
+ghost use Rattle.std.specs.Prelude.{◌≡◌, ◌<◌, ◌≤◌, Err, IfOk, None, OnOk, Option, Some, length, option_map, slice_get, true};
 ghost use Rattle.std.specs.List.{AllByRecursion};
 ghost use Rattle.dr_base.specs.declared.limits.TheConstants.{OUTBOX_LIMIT};
 ghost use Rattle.dr_model.specs.Machines.Acts.{taken_by};
 ghost use Rattle.dr_model.specs.Machines.Steps.{settled};
 ghost use Rattle.dr_ports.specs.Wires.{Port};
-ghost use Rattle.relay_pipe.specs.Asking.{Asks, LeavesLink};
+ghost use Rattle.relay_core.specs.Boxes.{role_of};
+ghost use Rattle.relay_pipe.specs.Asking.{Asks, FailsToAsk, LeavesLink};
 ghost use Rattle.relay_wire.specs.Names.{is_packet};
 ghost use Rattle.relay_wire.specs.Requests.{Asked};
 ghost use Rattle.relay_wire.specs.Seen.{asked_of};
 ghost use Rattle.session_model.specs.Clients.{accept_receive};
+ghost use Rattle.sync_model.specs.Tokens.{SyncKeys, Tokens as SyncTokens, counter_under, tagged};
 ghost use Rattle.client.specs.Clients.{IsOpenOn};
 ghost use Rattle.client.specs.Drafting.{IsReceivedOf, taken_of};
+ghost use Rattle.client.specs.Syncing.Keys.{keys_seen};
 ghost use Rattle.client.specs.Syncing.Parties.{sent_step, waiting};
 ghost use Rattle.client.specs.Syncing.Rounds.{GetsReply};
 ghost use Rattle.client.specs.Syncing.Moments.{HasGone, IsTaken};
 
 use super::faults::SyncFault;
+use super::keys::{BoxKeys, role_of};
+use super::tokens::Tokens;
 use crate::client::Client;
 use crate::cores::Core;
 use crate::dropping::drop_exact;
@@ -27,35 +32,95 @@ use dr_disk::{Call, Disk};
 use dr_ports::Pipe;
 use kem_laws::Kem;
 use ratchet::ReceiveDraft;
+use relay_guard::Token;
 use relay_pipe::{AskFault, ask};
 use relay_wire::{FrameReader, Packet, Reply, Request};
 use session_model::{Answer, Items, Refusal, Which};
 
-/// What came of a request.
-fn heard<'a>(replied: Result<Reply<'a>, AskFault>) -> Result<Reply<'a>, SyncFault>
-    ensures { (asked : Asked) (start now : Port) → Asks asked start now replied.entry
-        → GetsReply asked start now result }
+/// What a fetch came to.
+pub(crate) enum Fetched {
+    /// It is to be made once more.
+    Again,
+    /// The box is empty.
+    Empty,
+    /// The packet of this number was taken.
+    Item(u64),
+}
+
+/// What an acknowledgement came to.
+pub(crate) enum Acked {
+    /// It is to be made once more.
+    Again,
+    /// The packet was dropped, or was absent.
+    Done,
+}
+
+/// What ends a sync in place of a reply.
+fn fault_of(fault: AskFault) -> SyncFault
+    ensures { (keys : Option SyncKeys) (old new : SyncTokens) (asked : Asked) (start now : Port)
+        → FailsToAsk (tagged keys old asked) start now fault
+        → GetsReply keys old new asked start now (Err result) }
 {
-    match replied {
-        Ok(reply) => Ok(reply),
-        Err(AskFault::Pipe) => Err(SyncFault::Link),
-        Err(AskFault::Peer(fault)) => Err(SyncFault::Peer {
+    match fault {
+        AskFault::Pipe => SyncFault::Link,
+        AskFault::Peer(fault) => SyncFault::Peer {
             at: fault.at,
             kind: fault.kind,
-        }),
+        },
     }
 }
 
-/// Sends a request, and reads its reply, which is lent from the reader.
+/// Sends a request, with its token where there are keys, and reads its reply.
+fn ask_tagged<'a, L: Pipe>(
+    link: &mut L,
+    reader: &'a mut FrameReader,
+    keys: &Option<BoxKeys>,
+    counter: u64,
+    request: Request<'_>,
+) -> Result<Reply<'a>, AskFault>
+    requires bare { (asked_of request).token ≡ None }
+    ensures asks { (tokens : SyncTokens)
+        → counter ≡ counter_under tokens (role_of (asked_of request.entry).ask)
+        → Asks (tagged (option_map keys_seen keys.now) tokens (asked_of request.entry))
+        (L.port link.old) (L.port link.new) result }
+    ensures link { LeavesLink L.port L.behind link.old link.new }
+{
+    match keys {
+        None => ask(link, reader, &request),
+        Some(keys) => {
+            let tag = keys.tag(counter, &request);
+            let token = Token { counter, tag: &tag };
+            ask(link, reader, &request.with_token(token))
+        }
+    }
+}
+
+/// Sends a request with its token, and reads its reply, which is lent from the reader. None where
+/// the request is to be made once more.
 pub(crate) fn ask_for<'a, L: Pipe>(
     link: &mut L,
     reader: &'a mut FrameReader,
-    request: &Request<'_>,
-) -> Result<Reply<'a>, SyncFault>
-    ensures answers { GetsReply (asked_of request.now) (L.port link.old) (L.port link.new) result }
+    keys: &Option<BoxKeys>,
+    tokens: &mut Tokens,
+    request: Request<'_>,
+) -> Result<Option<Reply<'a>>, SyncFault>
+    requires bare { (asked_of request).token ≡ None }
+    ensures answers { GetsReply (option_map keys_seen keys.now) tokens.old tokens.new
+        (asked_of request.entry) (L.port link.old) (L.port link.new) result }
     ensures link { LeavesLink L.port L.behind link.old link.new }
 {
-    heard(ask(link, reader, request))
+    let role = role_of(&request.ask);
+    let counter = tokens.counter(role);
+    match ask_tagged(link, reader, keys, counter, request) {
+        Err(fault) => Err(fault_of(fault)),
+        Ok(reply) => {
+            if tokens.reads(role, keys, &reply) {
+                Ok(None)
+            } else {
+                Ok(Some(reply))
+            }
+        }
+    }
 }
 
 /// The oldest packet that waits.

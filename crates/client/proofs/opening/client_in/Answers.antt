@@ -18,7 +18,7 @@ into_core-requires-clause-lawful g c = λ s is.
     let read = c.requires.read text.0 text.1 in
     let core = c.args.room.record.room in
     let same : read.state ≡ s = let e : Some read.state ≡ Some s = sym read.session_is ∙ is in cc in
-    subst (λ (s : State). IsLawfulClient g.K.Kem.mechanism (client_of s core.inbox core.outbox)) same read.lawful
+    subst (λ (s : State). IsLawfulClient g.K.Kem.mechanism (client_of s core.inbox core.outbox c.args.room.record.keys)) same read.lawful
 
 pub returns-clause-read : goal.returns-clause-read
 returns-clause-read g c = λ text is.

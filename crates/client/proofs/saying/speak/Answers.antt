@@ -3,6 +3,7 @@ use Rattle.dr_base.specs.declared.position.Position.{Position}
 use Rattle.dr_model.specs.Machines.Acts.{said_by}
 use Rattle.ratchet.specs.Seen.{said_of, seed_bytes}
 use Rattle.session_model.specs.Clients.{Client, accept_send, say_on}
+use Rattle.session_model.specs.Contents.{content_with}
 use Rattle.session_model.specs.declared.answer.Answer.TheVariants.{Said}
 use Rattle.client.specs.Acting.{IsKeeperAct}
 use Rattle.client.specs.Outcomes.{acknowledged, faulted}
@@ -19,7 +20,7 @@ pub returns-in-Ok-keep-clause-acts : goal.returns-in-Ok-keep-clause-acts
 returns-in-Ok-keep-clause-acts g c =
     let k = g.K.Kem.mechanism in
     let says =
-    λ (kept : Client). said_by (say_on k kept c.args.text.now (seed_bytes c.args.seed)) in
+    λ (kept : Client). said_by (say_on k kept (content_with c.args.kind c.args.text.now) (seed_bytes c.args.seed)) in
     let drafted =
     λ (kept : Client). said_by (accept_send kept (Some (said_of kept.state c.in-Ok.draft))) in
     let kept = g.Q.Keeper.keeping.kept c.draft_say.new.self in
@@ -34,7 +35,7 @@ pub returns-in-Err-keep-clause-acts : goal.returns-in-Err-keep-clause-acts
 returns-in-Err-keep-clause-acts g c =
     let k = g.K.Kem.mechanism in
     let says =
-    λ (kept : Client). said_by (say_on k kept c.args.text.now (seed_bytes c.args.seed)) in
+    λ (kept : Client). said_by (say_on k kept (content_with c.args.kind c.args.text.now) (seed_bytes c.args.seed)) in
     let drafted =
     λ (kept : Client). said_by (accept_send kept (Some (said_of kept.state c.in-Ok.draft))) in
     let kept = g.Q.Keeper.keeping.kept c.draft_say.new.self in

@@ -8,31 +8,21 @@ use Rattle.client.proofs.Syncs.Collecting.{collected, collected_unstored}
 use Rattle.client.proofs.client.Client.collect.Goals as goal
 
 pub returns-in-Err-clause-turns : goal.returns-in-Err-clause-turns
-returns-in-Err-clause-turns g c = λ own peers n packet drafts.
+returns-in-Err-clause-turns g c = λ own peers keys n packet drafts.
     let kept = c.args.self.now.kept in
     let taken = subst (λ (r : Result TakenPacket Refusal). IsTaken (settled kept (taken_by r)) c.args.self.now c.take_packet.new.self
     (g.D.Disk.state c.args.disk.now) (g.D.Disk.state c.take_packet.new.disk) (Err c.in-Err.call)) (sym drafts) c.in-Err.ensures in
-    collected_unstored g.K.Kem.mechanism c.args.prefix.now own peers kept n c.args.number packet
+    collected_unstored g.K.Kem.mechanism c.args.prefix.now own peers keys kept n c.args.number packet
     (moment c.args.self.now (g.D.Disk.state c.args.disk.now) (g.O.Sink.at c.args.out.now))
     (moment c.take_packet.new.self (g.D.Disk.state c.take_packet.new.disk) (g.O.Sink.at c.args.out.now))
     c.in-Err.call taken refl refl
 
-pub returns-in-Err-answered-clause-turns : goal.returns-in-Err-answered-clause-turns
-returns-in-Err-answered-clause-turns g c = λ own peers n packet drafts.
+pub returns-in-Ok-clause-turns : goal.returns-in-Ok-clause-turns
+returns-in-Ok-clause-turns g c = λ own peers keys n packet drafts.
     let kept = c.args.self.now.kept in
     let taken = subst (λ (r : Result TakenPacket Refusal). IsTaken (settled kept (taken_by r)) c.args.self.now c.take_packet.new.self
     (g.D.Disk.state c.args.disk.now) (g.D.Disk.state c.take_packet.new.disk) (Ok c.in-Ok.answer)) (sym drafts) c.in-Ok.ensures in
-    collected g.K.Kem.mechanism c.args.prefix.now own peers kept n c.args.number packet
+    collected g.K.Kem.mechanism c.args.prefix.now own peers keys kept n c.args.number packet
     (moment c.args.self.now (g.D.Disk.state c.args.disk.now) (g.O.Sink.at c.args.out.now))
     (moment c.take_packet.new.self (g.D.Disk.state c.take_packet.new.disk) (g.O.Sink.at c.answered.new.out))
-    c.in-Ok.answer taken.0 taken.1 (Err c.in-Err-answered.fault) c.in-Err-answered.ensures.answers
-
-pub returns-in-Ok-answered-clause-turns : goal.returns-in-Ok-answered-clause-turns
-returns-in-Ok-answered-clause-turns g c = λ own peers n packet drafts.
-    let kept = c.args.self.now.kept in
-    let taken = subst (λ (r : Result TakenPacket Refusal). IsTaken (settled kept (taken_by r)) c.args.self.now c.take_packet.new.self
-    (g.D.Disk.state c.args.disk.now) (g.D.Disk.state c.take_packet.new.disk) (Ok c.in-Ok.answer)) (sym drafts) c.in-Ok.ensures in
-    collected g.K.Kem.mechanism c.args.prefix.now own peers kept n c.args.number packet
-    (moment c.args.self.now (g.D.Disk.state c.args.disk.now) (g.O.Sink.at c.args.out.now))
-    (moment c.take_packet.new.self (g.D.Disk.state c.take_packet.new.disk) (g.O.Sink.at c.answered.new.out))
-    c.in-Ok.answer taken.0 taken.1 (Ok tt) c.in-Ok-answered.ensures.answers
+    c.in-Ok.answer taken.0 taken.1 c.answered.result c.answered.ensures.answers

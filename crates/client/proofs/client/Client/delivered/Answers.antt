@@ -10,16 +10,16 @@ use Rattle.client.proofs.Syncs.Turning.{turns_on, turns_unstored, turns_unwritte
 use Rattle.client.proofs.client.Client.delivered.Goals as goal
 
 pub returns-in-Err-clause-turns : goal.returns-in-Err-clause-turns
-returns-in-Err-clause-turns g c = λ own peers which.
-    turns_unstored (move (party_of g.K.Kem.mechanism c.args.prefix.now own peers) c.args.self.now.kept (posting which) (stored c.args.number))
+returns-in-Err-clause-turns g c = λ own peers keys which.
+    turns_unstored (move (party_of g.K.Kem.mechanism c.args.prefix.now own peers keys) c.args.self.now.kept (posting which) (stored c.args.number))
     (sent_step g.K.Kem.mechanism c.args.self.now.kept).next refl
     (moment c.args.self.now (g.D.Disk.state c.args.disk.now) (g.O.Sink.at c.args.out.now))
     (moment c.drop_oldest.new.self (g.D.Disk.state c.drop_oldest.new.disk) (g.O.Sink.at c.args.out.now))
     c.in-Err.call c.in-Err.ensures.gone (wrote_nothing _ _ refl refl)
 
 pub returns-in-Err-write_stored-clause-turns : goal.returns-in-Err-write_stored-clause-turns
-returns-in-Err-write_stored-clause-turns g c = λ own peers which.
-    turns_unwritten (move (party_of g.K.Kem.mechanism c.args.prefix.now own peers) c.args.self.now.kept (posting which) (stored c.args.number))
+returns-in-Err-write_stored-clause-turns g c = λ own peers keys which.
+    turns_unwritten (move (party_of g.K.Kem.mechanism c.args.prefix.now own peers keys) c.args.self.now.kept (posting which) (stored c.args.number))
     (sent_step g.K.Kem.mechanism c.args.self.now.kept).next refl
     (moment c.args.self.now (g.D.Disk.state c.args.disk.now) (g.O.Sink.at c.args.out.now))
     (moment c.drop_oldest.new.self (g.D.Disk.state c.drop_oldest.new.disk) (g.O.Sink.at c.write_stored.new.out))
@@ -27,8 +27,8 @@ returns-in-Err-write_stored-clause-turns g c = λ own peers which.
     (record { beginning = c.in-Err-write_stored.ensures.part; rose = c.in-Err-write_stored.ensures.cause.failed })
 
 pub returns-in-Ok-write_stored-clause-turns : goal.returns-in-Ok-write_stored-clause-turns
-returns-in-Ok-write_stored-clause-turns g c = λ own peers which.
-    turns_on (move (party_of g.K.Kem.mechanism c.args.prefix.now own peers) c.args.self.now.kept (posting which) (stored c.args.number))
+returns-in-Ok-write_stored-clause-turns g c = λ own peers keys which.
+    turns_on (move (party_of g.K.Kem.mechanism c.args.prefix.now own peers keys) c.args.self.now.kept (posting which) (stored c.args.number))
     (sent_step g.K.Kem.mechanism c.args.self.now.kept).next refl
     (moment c.args.self.now (g.D.Disk.state c.args.disk.now) (g.O.Sink.at c.args.out.now))
     (moment c.drop_oldest.new.self (g.D.Disk.state c.drop_oldest.new.disk) (g.O.Sink.at c.write_stored.new.out))

@@ -7,6 +7,7 @@ use Rattle.dr_disk.proofs.Steps.{quiet_twice}
 use Rattle.kem_laws.specs.Mechanism.{Mechanism}
 use Rattle.session_model.specs.Clients.{Client}
 use Rattle.session_model.specs.States.{State}
+use Rattle.session_model.specs.declared.relay_keys.RelayKeys.{RelayKeys}
 use Rattle.session_record.specs.Record.{record_text}
 use Rattle.slot_store.specs.Found.{HasReadContent, found_as}
 use Rattle.slot_store.specs.Stops.{calls_of}
@@ -167,15 +168,15 @@ returns-in-Err-renew-clause-in_worlds g c = λ w side lawful reads.
 
 -- the record that was found was read
 read_of : {R : Type 0} (new old : R) (k : Mechanism) (session : R → Option State) (inbox : R → List Entry) (outbox : R → List Post)
-    (o : Option (List ℕ)) (text : List ℕ) → o ≡ Some text
-    → HasReadContent (λ r t. HasReadClient k (session r) (inbox r) (outbox r) t) old new o
-    → HasReadClient k (session new) (inbox new) (outbox new) text
-read_of new old k session inbox outbox o text is =
-    subst (HasReadContent (λ r t. HasReadClient k (session r) (inbox r) (outbox r) t) old new) is
+    (relay : R → Option RelayKeys) (o : Option (List ℕ)) (text : List ℕ) → o ≡ Some text
+    → HasReadContent (λ r t. HasReadClient k (session r) (inbox r) (outbox r) (relay r) t) old new o
+    → HasReadClient k (session new) (inbox new) (outbox new) (relay new) text
+read_of new old k session inbox outbox relay o text is =
+    subst (HasReadContent (λ r t. HasReadClient k (session r) (inbox r) (outbox r) (relay r) t) old new) is
 
 pub client_in-client-requires-clause-read : goal.client_in-client-requires-clause-read
 client_in-client-requires-clause-read g c = λ text is.
-    read_of c.open.new.reader _ g.K.Kem.mechanism (λ r. r.session) (λ r. r.room.inbox) (λ r. r.room.outbox)
+    read_of c.open.new.reader _ g.K.Kem.mechanism (λ r. r.session) (λ r. r.room.inbox) (λ r. r.room.outbox) (λ r. r.keys)
     (content c.in-Ok-open.store) text is c.in-Ok-open.ensures.read
 
 pub returns-in-Err-clause-migrates : goal.returns-in-Err-clause-migrates

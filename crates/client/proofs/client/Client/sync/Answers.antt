@@ -1,9 +1,10 @@
-use Rattle.std.proofs.Common.{Err, List, None, Option, Some, ap, refl, subst, sym, ℕ, ◌∙◌, ◌≡◌}
+use Rattle.std.proofs.Common.{Err, None, Option, Some, ap, refl, subst, sym, ◌∙◌, ◌≡◌}
 use Rattle.dr_disk.specs.declared.call.Call.{Call}
+use Rattle.session_model.specs.Clients.{Client}
+use Rattle.sync_model.specs.Parties.{Party}
 use Rattle.client.specs.Clients.{ClientNow}
-use Rattle.client.specs.Syncing.Lines.{own_box}
+use Rattle.client.specs.Syncing.InOrder.{SyncsInOrder, spot}
 use Rattle.client.specs.Syncing.Moments.{moment}
-use Rattle.client.specs.Syncing.Parties.{party_of}
 use Rattle.client.specs.Syncing.Syncs.{Syncs}
 use Rattle.client.specs.declared.syncing.faults.SyncFault.TheVariants.{Closed}
 use Rattle.client.proofs.Syncs.Arrivals.{opens}
@@ -27,13 +28,11 @@ returns-clause-syncs g c = λ is_open.
     let b = moment c.sync_open.new.self (g.D.Disk.state c.sync_open.new.disk) (g.O.Sink.at c.sync_open.new.out) in
     let start = g.L.Pipe.port c.args.link.now in
     let now = g.L.Pipe.port c.sync_open.new.link in
-    let posts = may_post kept c.names-names.result.own c.names-names.result.peers c.names-names.ensures.own c.names-names.ensures.peers
-    c.names-names.ensures.own_lawful c.names-names.ensures.peers_lawful c.may_post.ensures.packets c.may_post.ensures.few in
+    let party = c.boxes-boxes.ensures.party k prefix in
+    let posts = may_post kept c.boxes-boxes.result.names.own c.boxes-boxes.result.names.peers (ap (λ (p : Party Client). p.own) party) (ap (λ (p : Party Client). p.peers) party)
+    c.boxes-boxes.ensures.own c.boxes-boxes.ensures.peers c.may_post.ensures.packets c.may_post.ensures.few in
     record {
-      exact =
-          subst (λ (peers : List ℕ). Syncs (party_of k prefix (own_box kept) peers) a b start now c.sync_open.result) c.names-names.ensures.peers
-          (subst (λ (own : List ℕ). Syncs (party_of k prefix own c.names-names.result.peers) a b start now c.sync_open.result) c.names-names.ensures.own
-          c.sync_open.ensures.exact.syncs);
+      exact = subst (λ (p : Party Client). Syncs p a b start now c.sync_open.result) party c.sync_open.ensures.exact.syncs;
       done = λ replies syncs.
           let transfer = transfers k prefix kept replies posts syncs.lawful in
           record {
@@ -59,3 +58,10 @@ returns-in-Some-clause-in_order g c = λ is_open. absurd (not_both c.in-Some.cal
 
 pub returns-clause-closed : goal.returns-clause-closed
 returns-clause-closed g c = λ call is. absurd (not_both call is (ap (λ (n : ClientNow). n.closed) (sym c.self.view_is) ∙ c.in_default.is))
+
+pub returns-clause-in_order : goal.returns-clause-in_order
+returns-clause-in_order g c = λ is_open.
+    subst (λ (p : Party Client). SyncsInOrder g.D.Disk.state g.L.Pipe.port g.O.Sink.at p
+    (spot c.args.self.now c.args.disk.now c.args.link.now c.args.out.now)
+    (spot c.sync_open.new.self c.sync_open.new.disk c.sync_open.new.link c.sync_open.new.out) c.sync_open.result)
+    (c.boxes-boxes.ensures.party g.K.Kem.mechanism c.args.prefix.now) c.sync_open.ensures.exact

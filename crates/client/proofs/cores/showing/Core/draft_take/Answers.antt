@@ -16,7 +16,7 @@ use Rattle.client.proofs.cores.showing.Core.draft_take.Goals.{in-Err-draft_recei
 pub returns-after-draft_receive-clause-draft : goal.returns-after-draft_receive-clause-draft
 returns-after-draft_receive-clause-draft g c =
     let k = g.K.Kem.mechanism in
-    let kept = client_of c.self.inside.session c.self.inside.inbox c.self.inside.outbox in
+    let kept = client_of c.self.inside.session c.self.inside.inbox c.self.inside.outbox c.self.inside.keys in
     let packet : IsLawful (agreement_size k) c.in-Ok.view = grind (arith, common_steps) in
     elim c.match-draft_receive.branch [
       | in-Err-draft_receive w ↦ subst (λ (r : Result Received Refusal). IfOk r (IsReceivedOf k c.args.self.now)) (sym w.result-is) tt

@@ -9,7 +9,7 @@ use Rattle.client.proofs.cores.showing.Core.written.Goals as goal
 pub returns-in-Said : goal.returns-in-Said
 returns-in-Said g c =
     let k = g.K.Kem.mechanism in
-    let kept = client_of c.self.inside.session c.self.inside.inbox c.self.inside.outbox in
+    let kept = client_of c.self.inside.session c.self.inside.inbox c.self.inside.outbox c.self.inside.keys in
     let of =
     subst (IsDraftOf k kept) c.in-Said.is
     (subst (λ (n : Client). IsDraftOf k n c.args.draft.now) (sym c.self.view_is) c.requires) in
@@ -25,7 +25,7 @@ returns-in-Said g c =
 pub returns-in-Received : goal.returns-in-Received
 returns-in-Received g c =
     let k = g.K.Kem.mechanism in
-    let kept = client_of c.self.inside.session c.self.inside.inbox c.self.inside.outbox in
+    let kept = client_of c.self.inside.session c.self.inside.inbox c.self.inside.outbox c.self.inside.keys in
     let part = c.part-in-Received.result in
     let change = TakesText c.position.result c.kind.result c.text.result in
     let of =
