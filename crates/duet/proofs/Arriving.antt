@@ -8,7 +8,7 @@ use Rattle.dr_base.specs.declared.position.Side.TheVariants.{First, Second}
 use Rattle.dr_disk.specs.declared.call.Call.{Call}
 use Rattle.dr_model.specs.Conversations.Views.{View, has_opened}
 use Rattle.dr_model.specs.Machines.Acts.{Act, dropping, saying, taking}
-use Rattle.dr_model.specs.Machines.Events.{PacketSource, cuts, does, drops, of_bytes, says, seeds, shows_awaiting, shows_inbox, shows_state, takes}
+use Rattle.dr_model.specs.Machines.Events.{PacketSource, cuts, does, drops, drops_long, of_bytes, says, seeds, shows_awaiting, shows_inbox, shows_state, takes}
 use Rattle.dr_model.specs.Machines.WorldActs.{act_in}
 use Rattle.dr_model.specs.Machines.WorldSides.{kept_in, sides_of}
 use Rattle.dr_model.specs.Machines.Worlds.{World, step_of, view_of}
@@ -20,13 +20,13 @@ use Rattle.kem_laws.specs.Mechanism.{IsLawfulMechanism, Mechanism}
 use Rattle.relay_core.specs.Boxes.{answers_of}
 use Rattle.relay_link.specs.Connections.{kept_before}
 use Rattle.relay_wire.specs.Requests.{Asked}
-use Rattle.sync_model.specs.Moves.{asked_in}
+use Rattle.sync_model.specs.Courses.{asked_now, repeats}
 use Rattle.sync_model.specs.Parties.{Party}
 use Rattle.sync_model.specs.Scenes.{IsFairNext, MeetsFairly}
 use Rattle.sync_model.specs.Transfers.{Meeting, answered, begins, meet_times, meets}
 use Rattle.client.specs.Syncing.Parties.{world_party}
 use Rattle.client.proofs.Syncs.Covered.{LeadsOn, steps_arrive}
-use Rattle.client.proofs.Syncs.Steps.{HoldsOfSteps, move_leads}
+use Rattle.client.proofs.Syncs.Steps.{HoldsOfSteps, heard_leads}
 use Rattle.parties.specs.Shuts.{Shut, failing_call, left_of}
 use Rattle.parties.specs.Stops.{cut_of}
 use Rattle.scripts.specs.Deeds.{Deed, acts, fails, reopens, stops, syncs}
@@ -52,13 +52,14 @@ module _ (k : Mechanism) (prefix : List ℕ) (side : Side) (first : World) (Lead
   one_leads : (m : Meeting World) (o : Option Asked) → IsFairNext party Fair m o → Leads m.course.state (answered party m o).course.state
   one_leads m None fair = holds.none m.course.state
   one_leads m (Some asked) fair =
-      move_leads k prefix side first Leads holds m.course.state m.course.wait (answers_of m.boxes asked).reply fair
+      let reply = (answers_of m.boxes asked).reply in
+      heard_leads k prefix side first Leads holds m.course reply (repeats party m.course reply) fair
 
   meets_lead : (n : ℕ) (m : Meeting World) → MeetsFairly party Fair n m → Leads m.course.state (meet_times party n m).course.state
   meets_lead zero m fair = holds.none m.course.state
   meets_lead (suc n) m fair =
       holds.twice m.course.state (meets party m).course.state (meet_times party n (meets party m)).course.state
-      (one_leads m (asked_in party m.course.state m.course.wait) fair.0) (meets_lead n (meets party m) fair.1)
+      (one_leads m (asked_now party m.course) fair.0) (meets_lead n (meets party m) fair.1)
 
 -- ---- a deed
 
@@ -106,7 +107,7 @@ module _ (k : Mechanism) (s : WorldBeside) (lawful : IsLawfulWorld k s.ends) whe
   -- an opening does what was left
   left_arrives : (side : Side) (left : Option Act) → IsTaking left → Arrives side (act_done_in k w side left)
   left_arrives side None take = absurd take
-  left_arrives side (Some (saying text draw)) take = absurd take
+  left_arrives side (Some (saying content draw)) take = absurd take
   left_arrives side (Some (dropping which)) take = absurd take
   left_arrives side (Some (taking packet)) take =
       drawn_arrives side (act_in k w side (taking packet)).next w.draws (take_arrives side (of_bytes packet))
@@ -128,8 +129,9 @@ module _ (k : Mechanism) (s : WorldBeside) (lawful : IsLawfulWorld k s.ends) whe
       → (needs_open deed ≡ true → shut_of s.shuts (deed_side deed) ≡ None) → Arrives (deed_side deed) (freely_in k s deed).next.ends
   unfolding stopped_in
   freely_arrives (acts (does side (takes source))) law honest take moves = take_arrives side source
-  freely_arrives (acts (does side (says text))) law honest take moves = absurd take
+  freely_arrives (acts (does side (says content))) law honest take moves = absurd take
   freely_arrives (acts (does side (drops items amount))) law honest take moves = absurd take
+  freely_arrives (acts (does side (drops_long id))) law honest take moves = absurd take
   freely_arrives (acts (seeds seed)) law honest take moves = absurd take
   freely_arrives (acts (shows_inbox side)) law honest take moves = absurd take
   freely_arrives (acts (shows_awaiting side)) law honest take moves = absurd take
@@ -137,16 +139,18 @@ module _ (k : Mechanism) (s : WorldBeside) (lawful : IsLawfulWorld k s.ends) whe
   freely_arrives (acts (cuts took event)) law honest take moves = absurd take
   freely_arrives (stops n mode side (takes source)) law honest take moves =
       stop_arrives side source (cut_of n mode (kept_in k w side) (kept_in k (step_of k w (does side (takes source))).next side))
-  freely_arrives (stops n mode side (says text)) law honest take moves = absurd take
+  freely_arrives (stops n mode side (says content)) law honest take moves = absurd take
   freely_arrives (stops n mode side (drops items amount)) law honest take moves = absurd take
+  freely_arrives (stops n mode side (drops_long id)) law honest take moves = absurd take
   freely_arrives (fails n side (takes source)) law honest take moves =
       let made = step_of k w (does side (takes source)) in
       let before = kept_in k w side in
       let after = kept_in k made.next side in
       fail_arrives side source (left_of n before after (act_of_event (sides_of k w) (does side (takes source))) None)
       (failing_call n made.answer before after)
-  freely_arrives (fails n side (says text)) law honest take moves = absurd take
+  freely_arrives (fails n side (says content)) law honest take moves = absurd take
   freely_arrives (fails n side (drops items amount)) law honest take moves = absurd take
+  freely_arrives (fails n side (drops_long id)) law honest take moves = absurd take
   freely_arrives (reopens side) law honest take moves = open_arrives side (shut_of s.shuts side) take
   freely_arrives (syncs side lost) law honest take moves = sync_arrives side lost law honest (moves refl)
 

@@ -26,8 +26,9 @@ use Rattle.dr_model.proofs.Worlds.Following.{step_follows}
 use Rattle.dr_model.proofs.Worlds.OpeningWorlds.{lawful_opening}
 use Rattle.dr_model.proofs.Worlds.SeenWorlds.{seen_world}
 use Rattle.relay_core.specs.Boxes.{Box, Kept, empty_box}
-use Rattle.relay_core.specs.Specs.{bare_spec}
 use Rattle.client.specs.Syncing.Lines.{own_box, peers_box}
+use Rattle.duet.specs.Relay.{first_keys, second_keys, spec_where}
+use Rattle.session_model.specs.BoxKeys.{relay_keys_of}
 use Rattle.duet.specs.Outcomes.{SidesBeside, SidesPlayed, WorldBeside, WorldPlayed, acted, barring, deed_in, deed_on, freely_in, freely_on, meeting_in, synced_in, unless_barred}
 use Rattle.scripts.specs.Deeds.{Deed, HasWholeSeed, acts, fails, reopens, stops, syncs}
 use Rattle.scripts.specs.Sides.{acting_side, deed_side}
@@ -208,8 +209,9 @@ honest_beginning k script pairs =
     let w = opening_world script.key script.formats in
     let Only : Box → Type 0 = HoldsOnly (IsSaidPacket k w) in
     let none = All-nil (λ (kept : Kept). IsSaidPacket k w kept.packet) in
-    let own = empty_box (bare_spec (own_box (kept_in k w First))) in
-    let peers = empty_box (bare_spec (peers_box (kept_in k w First))) in
+    let keys = relay_keys_of script.key in
+    let own = empty_box (spec_where script.guarded (own_box (kept_in k w First)) (first_keys keys)) in
+    let peers = empty_box (spec_where script.guarded (peers_box (kept_in k w First)) (second_keys keys)) in
     record {
       lawful = lawful_opening k script.key script.formats pairs;
       shuts = none_left k w;

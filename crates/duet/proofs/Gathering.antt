@@ -12,6 +12,7 @@ use Rattle.dr_model.specs.Machines.Draws.{given_or}
 use Rattle.dr_model.specs.Machines.Sides.{Sides, client_of, settled_on, with_client}
 use Rattle.dr_model.specs.Machines.Steps.{Step, has_effect, leaving, settled, step}
 use Rattle.kem_laws.specs.Mechanism.{Mechanism}
+use Rattle.session_model.specs.Contents.{Content}
 use Rattle.session_model.specs.Clients.{Client, accept_send, say_check, take_on}
 use Rattle.session_model.specs.Saying.{SendDraft, draft_send}
 use Rattle.session_model.specs.Leaving.{drop_check}
@@ -103,12 +104,12 @@ leaving_few c which (Err refusal) = omega arith
 
 -- an act that says no text
 abbrev pub SaysNone : Act → Type 0
-SaysNone (saying text draw) = ⊥
+SaysNone (saying content draw) = ⊥
 SaysNone _ = ⊤
 
 pub quiet_few : (k : Mechanism) (c : Client) (act : Act) → SaysNone act
     → length (settled c (act_on k c act)).next.outbox ≤ length c.outbox
-quiet_few k c (saying text draw) none = absurd none
+quiet_few k c (saying content draw) none = absurd none
 quiet_few k c (taking bytes) none = taken_few k c bytes
 quiet_few k c (dropping which) none = leaving_few c which (drop_check which c.inbox c.outbox)
 
@@ -116,13 +117,13 @@ pub said_few : (c : Client) (d : Option SendDraft) → length (settled c (said_b
 said_few c None = omega arith
 said_few c (Some draft) = omega (arith, length-append c.outbox (draft.post ∷ []))
 
-saying_few : (k : Mechanism) (c : Client) (text : List ℕ) (draw : Option (List ℕ)) (r : Result Bool Refusal)
-    → length (settled c (saying_by k c text draw r)).next.outbox ≤ length c.outbox + 1
-saying_few k c text draw (Ok turns) = said_few c (draft_send k c.state text (given_or [] draw))
-saying_few k c text draw (Err refusal) = omega arith
+saying_few : (k : Mechanism) (c : Client) (content : Content) (draw : Option (List ℕ)) (r : Result Bool Refusal)
+    → length (settled c (saying_by k c content draw r)).next.outbox ≤ length c.outbox + 1
+saying_few k c content draw (Ok turns) = said_few c (draft_send k c.state content (given_or [] draw))
+saying_few k c content draw (Err refusal) = omega arith
 
 pub acted_few : (k : Mechanism) (c : Client) (act : Act) → length (settled c (act_on k c act)).next.outbox ≤ length c.outbox + 1
-acted_few k c (saying text draw) = saying_few k c text draw (say_check c (length text))
+acted_few k c (saying content draw) = saying_few k c content draw (say_check c content)
 acted_few k c act = omega (arith, quiet_few k c act tt)
 
 -- also where it is cut off

@@ -24,6 +24,7 @@ use Rattle.dr_model.proofs.Saying.SayingChecks.{same_check}
 use Rattle.dr_model.proofs.Worlds.Following.{step_follows}
 use Rattle.dr_model.proofs.Worlds.WorldViews.{client_of-kept}
 use Rattle.kem_laws.specs.Mechanism.{IsLawfulMechanism, Mechanism}
+use Rattle.session_model.specs.Contents.{Content}
 use Rattle.session_model.specs.Clients.{Client, SaidText, accept_send, say_check, say_on}
 use Rattle.session_model.specs.Saying.{SendDraft, draft_send}
 use Rattle.session_model.specs.declared.answer.Refusal.{Refusal}
@@ -62,18 +63,18 @@ draft_newest : (c : Client) (d : Option SendDraft)
 draft_newest c None = sym (none_newest (length c.outbox) c.outbox (omega arith))
 draft_newest c (Some draft) = sym (one_newest c.outbox draft.post)
 
-abbrev saying_posts : Mechanism → Client → List ℕ → Option (List ℕ) → Result Bool Refusal → List Post
-saying_posts k c text draw (Ok turns) = posts_by (say_on k c text (given_or [] draw))
-saying_posts k c text draw (Err refusal) = []
+abbrev saying_posts : Mechanism → Client → Content → Option (List ℕ) → Result Bool Refusal → List Post
+saying_posts k c content draw (Ok turns) = posts_by (say_on k c content (given_or [] draw))
+saying_posts k c content draw (Err refusal) = []
 
-saying_newest : (k : Mechanism) (c : Client) (text : List ℕ) (draw : Option (List ℕ)) (r : Result Bool Refusal)
-    → saying_posts k c text draw r ≡ newest c (settled c (saying_by k c text draw r)).next
-saying_newest k c text draw (Err refusal) = sym (none_newest (length c.outbox) c.outbox (omega arith))
-saying_newest k c text draw (Ok turns) = draft_newest c (draft_send k c.state text (given_or [] draw))
+saying_newest : (k : Mechanism) (c : Client) (content : Content) (draw : Option (List ℕ)) (r : Result Bool Refusal)
+    → saying_posts k c content draw r ≡ newest c (settled c (saying_by k c content draw r)).next
+saying_newest k c content draw (Err refusal) = sym (none_newest (length c.outbox) c.outbox (omega arith))
+saying_newest k c content draw (Ok turns) = draft_newest c (draft_send k c.state content (given_or [] draw))
 
 -- what an act adds is the newest packet of the outbox
 acts_newest : (k : Mechanism) (c : Client) (act : Act) → act_posts k c act ≡ newest c (settled c (act_on k c act)).next
-acts_newest k c (saying text draw) = saying_newest k c text draw (say_check c (length text))
+acts_newest k c (saying content draw) = saying_newest k c content draw (say_check c content)
 acts_newest k c act =
     sym (none_newest (length c.outbox) (settled c (act_on k c act)).next.outbox (quiet_few k c act tt))
 
@@ -87,19 +88,19 @@ said_key : (s : Sides) (side : Side) (r : Result SaidText Refusal) → (said_on 
 said_key s side (Ok said) = with_key s side said.next
 said_key s side (Err refusal) = refl
 
-saying_key : (k : Mechanism) (s : Sides) (side : Side) (text : List ℕ) (r : Result Bool Refusal)
-    → (saying_on k s side text r).next.key ≡ s.key
-saying_key k s side text (Err refusal) = refl
-saying_key k s side text (Ok false) = said_key s side (say_on k (client_of s side) text [])
-saying_key k s side text (Ok true) =
-    said_key (record s { draws = after_draw s.draws }) side (say_on k (client_of s side) text (next_seed s.key s.draws))
+saying_key : (k : Mechanism) (s : Sides) (side : Side) (content : Content) (r : Result Bool Refusal)
+    → (saying_on k s side content r).next.key ≡ s.key
+saying_key k s side content (Err refusal) = refl
+saying_key k s side content (Ok false) = said_key s side (say_on k (client_of s side) content [])
+saying_key k s side content (Ok true) =
+    said_key (record s { draws = after_draw s.draws }) side (say_on k (client_of s side) content (next_seed s.key s.draws))
 
 settled_key : (s : Sides) (side : Side) (r : Result (Step Client) Refusal) → (settled_on s side r).next.key ≡ s.key
 settled_key s side (Ok made) = with_key s side made.next
 settled_key s side (Err refusal) = refl
 
 act_key : (k : Mechanism) (s : Sides) (side : Side) (act : Act) → (step_on k s (event_of side act)).next.key ≡ s.key
-act_key k s side (saying text draw) = saying_key k s side text (say_check (client_of s side) (length text))
+act_key k s side (saying content draw) = saying_key k s side content (say_check (client_of s side) content)
 act_key k s side (taking bytes) = settled_key s side (act_on k (client_of s side) (taking bytes))
 act_key k s side (dropping which) =
     ap (λ (made : Step Sides). made.next.key) (drop_called k s side which)
@@ -111,17 +112,17 @@ draw_over w None = refl
 draw_over w (Some seed) = refl
 
 act_over : (w : World) (act : Act) → w.conversation ≡ (world_for w act).conversation
-act_over w (saying text draw) = draw_over w draw
+act_over w (saying content draw) = draw_over w draw
 act_over w act = refl
 
 -- ---- an act that was held back
 
 module _ (k : Mechanism) (w : World) (side : Side) (law : IsLawfulMechanism k) (lawful : IsLawfulWorld k w) where
   fair_act : (act : Act) → IsHeldBack k w side act → IsFairAct k w side act
-  fair_act (saying text draw) held = record {
+  fair_act (saying content draw) held = record {
     needed = held.0
-        ∙ ap (λ (c : Client). needs_seed (say_check c (length text))) (sym (client_of-kept k w side))
-        ∙ ap needs_seed (same_check k w side (length text) lawful);
+        ∙ ap (λ (c : Client). needs_seed (say_check c content)) (sym (client_of-kept k w side))
+        ∙ ap needs_seed (same_check k w side content lawful);
     whole = held.1;
   }
   fair_act (taking bytes) held = unforged k w side bytes lawful held

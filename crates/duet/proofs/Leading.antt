@@ -26,6 +26,7 @@ use Rattle.dr_model.proofs.Taking.NetworkPosts.{held_at-posts, held_nth-posts}
 use Rattle.dr_model.proofs.Worlds.CallKinds.{nth_said}
 use Rattle.dr_model.proofs.Worlds.WorldViews.{client_of-kept}
 use Rattle.kem_laws.specs.Mechanism.{Mechanism}
+use Rattle.session_model.specs.Contents.{Content}
 use Rattle.session_model.specs.Clients.{Client, SaidText, say_check, say_on}
 use Rattle.session_model.specs.declared.answer.Refusal.{Refusal}
 use Rattle.scripts.specs.Sides.{acting_side}
@@ -47,13 +48,13 @@ said_next s First (Ok said) = refl
 said_next s Second (Ok said) = refl
 said_next s side (Err refusal) = refl
 
-saying_leads : (k : Mechanism) (s : Sides) (side : Side) (text : List ℕ) (r : Result Bool Refusal)
-    → (settled (client_of s side) (saying_by k (client_of s side) text (draw_for s r) r)).next
-    ≡ client_of (saying_on k s side text r).next side
-saying_leads k s side text (Err refusal) = refl
-saying_leads k s side text (Ok false) = said_next s side (say_on k (client_of s side) text [])
-saying_leads k s side text (Ok true) =
-    let said = say_on k (client_of s side) text (next_seed s.key s.draws) in
+saying_leads : (k : Mechanism) (s : Sides) (side : Side) (content : Content) (r : Result Bool Refusal)
+    → (settled (client_of s side) (saying_by k (client_of s side) content (draw_for s r) r)).next
+    ≡ client_of (saying_on k s side content r).next side
+saying_leads k s side content (Err refusal) = refl
+saying_leads k s side content (Ok false) = said_next s side (say_on k (client_of s side) content [])
+saying_leads k s side content (Ok true) =
+    let said = say_on k (client_of s side) content (next_seed s.key s.draws) in
     ap (λ (c : Client). (settled c (said_by said)).next) (sym (drawn_same s side (after_draw s.draws)))
     ∙ said_next (record s { draws = after_draw s.draws }) side said
 
@@ -65,7 +66,7 @@ acted_leads k s side (Some act) =
 
 called_leads : (k : Mechanism) (s : Sides) (side : Side) (call : SideCall)
     → left_on k s side (act_of s side call) ≡ client_of (called_on k s side call).next side
-called_leads k s side (says text) = saying_leads k s side text (say_check (client_of s side) (length text))
+called_leads k s side (says content) = saying_leads k s side content (say_check (client_of s side) content)
 called_leads k s side call = acted_leads k s side (act_of s side call)
 
 leads_on : (k : Mechanism) (s : Sides) (event : Event) → has_effect (step_on k s event).answer ≡ true
@@ -164,9 +165,9 @@ source_held k w side (of_bytes bytes) effect = given_held k w side (Some bytes) 
 call_held : (k : Mechanism) (w : World) (side : Side) (call : SideCall) → IsLawfulWorld k w
     → has_effect (called_in k w side call).answer ≡ true
     → IfSome (act_of (sides_of k w) side call) (IsHeldBack k w side)
-call_held k w side (says text) lawful effect =
-    let check = say_check (client_of (sides_of k w) side) (length text) in (
-      needs_draw k w side (sides_of k w) check ∙ ap (λ (c : Client). needs_seed (say_check c (length text))) (client_of-kept k w side),
+call_held k w side (says content) lawful effect =
+    let check = say_check (client_of (sides_of k w) side) content in (
+      needs_draw k w side (sides_of k w) check ∙ ap (λ (c : Client). needs_seed (say_check c content)) (client_of-kept k w side),
       draw_whole k w side check lawful,
     )
 call_held k w side (takes source) lawful effect = source_held k w side source effect

@@ -51,7 +51,7 @@ acted_leaves k s side (Some act) = settled_leaves s side (act_on k (client_of s 
 
 called_leaves : (k : Mechanism) (s : Sides) (side : Side) (call : SideCall)
     → client_of (called_on k s side call).next (peer_of side) ≡ client_of s (peer_of side)
-called_leaves k s side (says text) = saying_leaves k s side text (say_check (client_of s side) (length text))
+called_leaves k s side (says content) = saying_leaves k s side content (say_check (client_of s side) content)
 called_leaves k s side call = acted_leaves k s side (act_of s side call)
 
 cut_keeps : (s : Sides) (side : Side) (took : Bool) (made : Step Sides) (effect : Bool)

@@ -111,7 +111,7 @@ pub record IsPlaying (k : Mechanism) (script : Scripted) (left : List Deed) (due
 
 -- before the first
 pub plays_first : (k : Mechanism) (script : Scripted) (left : List Deed) (duet : DuetNow) (tally : Tally) (told : SinkState) (room : ℕ)
-    → left ≡ script.deeds → room ≡ length script.deeds → duet ≡ opening_duet k script.key script.formats room
+    → left ≡ script.deeds → room ≡ length script.deeds → duet ≡ opening_duet k script.key script.formats script.guarded room
     → room < 2 ^ 32 - 1 → tally ≡ opening_tally script.rounds
     → IsPlaying k script left duet tally told told
 unfolding after_by counted_by

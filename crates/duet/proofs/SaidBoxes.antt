@@ -128,8 +128,8 @@ boxes_weaker Is Are follows =
 
 -- what a closed side is to do when it opens is what it can do
 abbrev pub IsHeldBack : Mechanism → World → Side → Act → Type 0
-IsHeldBack k w side (saying text draw) =
-    (is_some draw ≡ needs_seed (say_check (kept_in k w side) (length text))) × IfSome draw (λ seed. length seed ≡ 32)
+IsHeldBack k w side (saying content draw) =
+    (is_some draw ≡ needs_seed (say_check (kept_in k w side) content)) × IfSome draw (λ seed. length seed ≡ 32)
 IsHeldBack k w side (taking bytes) = IsSaidPacket k w bytes
 IsHeldBack k w side _ = ⊤
 
@@ -148,8 +148,8 @@ KeepsShut k shuts w next = (side : Side) → IfSome (shut_of shuts side) (λ _. 
 
 module _ (k : Mechanism) (w next : World) (side : Side) (said : (packet : List ℕ) → IsSaidPacket k w packet → IsSaidPacket k next packet) where
   held_stays : (act : Act) → kept_in k next side ≡ kept_in k w side → IsHeldBack k w side act → IsHeldBack k next side act
-  held_stays (saying text draw) same held =
-      (held.0 ∙ ap (λ (c : Client). needs_seed (say_check c (length text))) (sym same), held.1)
+  held_stays (saying content draw) same held =
+      (held.0 ∙ ap (λ (c : Client). needs_seed (say_check c content)) (sym same), held.1)
   held_stays (taking bytes) same held = said bytes held
   held_stays act same held = tt
 

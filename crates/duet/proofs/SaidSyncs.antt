@@ -1,6 +1,7 @@
 -- A sync of a script fetches packets that were said, and posts no others.
 use Rattle.std.proofs.Common.{List, None, Option, Some, [], ap, false, refl, subst, suc, sym, true, zero, Bool, ℕ, ◌∷◌, ◌≡◌}
-use Rattle.std.specs.Prelude.{All, IfSome, if◌then◌else◌}
+use Rattle.std.specs.Prelude.{All, IfSome, if◌then◌else◌, option_map}
+use Rattle.relay_guard.specs.Guards.{Token}
 use Rattle.std.proofs.lemmas.List.Elements.{All-head, All-tail}
 use Rattle.dr_base.specs.declared.position.Side.{Side}
 use Rattle.dr_base.specs.Position.{peer_of}
@@ -21,6 +22,7 @@ use Rattle.sync_model.specs.Carried.{relay_after}
 use Rattle.sync_model.specs.Courses.{as_list}
 use Rattle.sync_model.specs.Moves.{Wait, acking, asked_in, posting_of, fetching, over, posting}
 use Rattle.sync_model.specs.Parties.{Party}
+use Rattle.sync_model.specs.Tokens.{tagged}
 use Rattle.sync_model.specs.Scenes.{IsFairNext, MeetsFairly, scene, without_reply}
 use Rattle.sync_model.specs.Simulation.{AreAlike, IsFairReply}
 use Rattle.sync_model.specs.Transfers.{Meeting, answered, begins, meet_times, meets}
@@ -34,8 +36,9 @@ use Rattle.duet.proofs.SaidBoxes.{AsksOnly, HoldsOnly, IsHonest, IsSaidPacket, K
 
 -- ---- one reply
 
-abbrev fetch_of : List ℕ → Asked
-fetch_of name = bare_request name fetches
+-- with a token or without one
+abbrev fetch_of : List ℕ → Option Token → Asked
+fetch_of name token = record { name = name; ask = fetches; token = token }
 
 -- a fetch brings a packet of the boxes
 module _ {S : Type 0} (Is : S → List ℕ → Type 0) (s : S) (n : ℕ) where
@@ -44,24 +47,25 @@ module _ {S : Type 0} (Is : S → List ℕ → Type 0) (s : S) (n : ℕ) where
   oldest_is (kept ∷ more) are = All-head (λ (x : Kept). Is s x.packet) kept more are
 
   -- or it is denied
-  fetched_in : (box : Box) (name : List ℕ) → HoldsOnly (Is s) box → IsFairReply Is s (fetching n) (answer_in box (fetch_of name)).reply
+  fetched_in : (box : Box) (name : List ℕ) (token : Option Token) → HoldsOnly (Is s) box
+      → IsFairReply Is s (fetching n) (answer_in box (fetch_of name token)).reply
   unfolding answer_of
-  fetched_in box name holds = by_answer (is_answered box (fetch_of name))
+  fetched_in box name token holds = by_answer (is_answered box (fetch_of name token))
     where
-      by_answer : IsAnswered box (fetch_of name) (answer_in box (fetch_of name))
-          → IsFairReply Is s (fetching n) (answer_in box (fetch_of name)).reply
+      by_answer : IsAnswered box (fetch_of name token) (answer_in box (fetch_of name token))
+          → IsFairReply Is s (fetching n) (answer_in box (fetch_of name token)).reply
       by_answer (is_served reply packets) = subst (IsFairReply Is s (fetching n)) (sym reply) (oldest_is box.packets holds)
       by_answer (is_denied rule last still) = subst (λ (a : Answer). IsFairReply Is s (fetching n) a.reply) (sym still) tt
 
-  fetched_is : (name : List ℕ) (boxes : List Box) → All (HoldsOnly (Is s)) boxes
-      → IsFairReply Is s (fetching n) (answers_of boxes (fetch_of name)).reply
+  fetched_is : (name : List ℕ) (token : Option Token) (boxes : List Box) → All (HoldsOnly (Is s)) boxes
+      → IsFairReply Is s (fetching n) (answers_of boxes (fetch_of name token)).reply
   unfolding answers_of
-  fetched_is name [] hold = tt
-  fetched_is name (box ∷ boxes) hold = by_name (is_named name box) (fetched_is name boxes (All-tail (HoldsOnly (Is s)) box boxes hold))
+  fetched_is name token [] hold = tt
+  fetched_is name token (box ∷ boxes) hold = by_name (is_named name box) (fetched_is name token boxes (All-tail (HoldsOnly (Is s)) box boxes hold))
     where
-      by_name : (named : Bool) → IsFairReply Is s (fetching n) (answers_of boxes (fetch_of name)).reply
-          → IsFairReply Is s (fetching n) (if named then of_first (answer_in box (fetch_of name)) boxes else after_box box (answers_of boxes (fetch_of name))).reply
-      by_name true more = fetched_in box name (All-head (HoldsOnly (Is s)) box boxes hold)
+      by_name : (named : Bool) → IsFairReply Is s (fetching n) (answers_of boxes (fetch_of name token)).reply
+          → IsFairReply Is s (fetching n) (if named then of_first (answer_in box (fetch_of name token)) boxes else after_box box (answers_of boxes (fetch_of name token))).reply
+      by_name true more = fetched_in box name token (All-head (HoldsOnly (Is s)) box boxes hold)
       by_name false more = more
 
 -- a post sends the oldest packet of the outbox
@@ -113,6 +117,7 @@ module _ (k : Mechanism) (law : IsLawfulMechanism k) (side : Side) (start : Worl
   keeps boxes = record {
     own = refl;
     peers = refl;
+    keys = refl;
     stored_line = λ number. refl;
     end_line = λ which. refl;
     outbox = λ v w are. ap party.outbox are.0;
@@ -136,36 +141,42 @@ module _ (k : Mechanism) (law : IsLawfulMechanism k) (side : Side) (start : Worl
     abbrev w : World
     w = m.course.state
 
+    -- what is asked, with its token
+    abbrev with_token : Option Asked → Option Asked
+    with_token o = option_map (tagged party.keys m.course.tokens) o
+
     -- the packet that comes at the next reply, if one comes, is fair
     reply_fair : (wait : Wait) (asked : Asked) → asked_in party w wait ≡ Some asked
-        → IsFairReply Fair w wait (answers_of m.boxes asked).reply
+        → IsFairReply Fair w wait (answers_of m.boxes (tagged party.keys m.course.tokens asked)).reply
     reply_fair (fetching n) asked is =
-        subst (λ (o : Option Asked). IfSome o (λ (a : Asked). IsFairReply Fair w (fetching n) (answers_of m.boxes a).reply)) is
-        (fetched_is Fair w n party.own m.boxes
+        let Replied : Option Asked → Type 0 = λ o. IfSome o (λ (a : Asked). IsFairReply Fair w (fetching n) (answers_of m.boxes (tagged party.keys m.course.tokens a)).reply) in
+        subst Replied is
+        (fetched_is Fair w n party.own (tagged party.keys m.course.tokens (bare_request party.own fetches)).token m.boxes
         (boxes_weaker (IsSaidPacket k w) (Fair w) (λ packet. unforged k w side packet honest.lawful) m.boxes honest.boxes))
     reply_fair (acking n number) asked is = tt
     reply_fair (posting which) asked is = tt
     reply_fair (over ending) asked is = tt
 
-    next_fair : (o : Option Asked) → asked_in party w m.course.wait ≡ o → IsFairNext party Fair m o
+    next_fair : (o : Option Asked) → asked_in party w m.course.wait ≡ o → IsFairNext party Fair m (with_token o)
     next_fair None is = tt
     next_fair (Some asked) is = reply_fair m.course.wait asked is
 
     -- the request that waits leaves the boxes so
     asked_holds : (o : Option Asked) → asked_in party w m.course.wait ≡ o
-        → All (HoldsOnly (IsSaidPacket k w)) (relay_after m.boxes (as_list o))
+        → All (HoldsOnly (IsSaidPacket k w)) (relay_after m.boxes (as_list (with_token o)))
     asked_holds None is = honest.boxes
     asked_holds (Some asked) is =
-        relay_holds (IsSaidPacket k w) m.boxes asked honest.boxes
+        relay_holds (IsSaidPacket k w) m.boxes (tagged party.keys m.course.tokens asked) honest.boxes
         (subst (λ (o : Option Asked). IfSome o (λ (a : Asked). AsksOnly (IsSaidPacket k w) a.ask)) is (asks_said w m.course.wait))
 
-    answered_honest : (o : Option Asked) → asked_in party w m.course.wait ≡ o → IsHonest k (at (answered party m o))
+    answered_honest : (o : Option Asked) → asked_in party w m.course.wait ≡ o → IsHonest k (at (answered party m (with_token o)))
     answered_honest None is = honest
     answered_honest (Some asked) is =
-        let boxes = (answers_of m.boxes asked).next in
+        let sends = tagged party.keys m.course.tokens asked in
+        let boxes = (answers_of m.boxes sends).next in
         let stands : IsHonest k (beside w boxes) = record { lawful = honest.lawful; boxes = asked_holds (Some asked) is; shuts = honest.shuts } in
-        (read_alike party party (AreOne boxes) Fair (keeps boxes) m.course m.course (answers_of m.boxes asked).reply
-        (record { state = (refl, stands); acts = refl; lines = refl; requests = refl; wait = refl }) (reply_fair m.course.wait asked is)).state.1
+        (read_alike party party (AreOne boxes) Fair (keeps boxes) m.course m.course (answers_of m.boxes sends).reply
+        (record { state = (refl, stands); acts = refl; lines = refl; requests = refl; wait = refl; tokens = refl }) (reply_fair m.course.wait asked is)).state.1
 
     meets_honest : IsHonest k (at (meets party m))
     meets_honest = answered_honest (asked_in party w m.course.wait) refl

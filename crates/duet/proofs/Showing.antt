@@ -5,6 +5,7 @@ use Rattle.std.proofs.lemmas.List.{length-drop}
 use Rattle.dr_base.specs.declared.position.Side.{Side}
 use Rattle.dr_base.specs.declared.position.Side.TheVariants.{First, Second}
 use Rattle.boxes.specs.Posts.{Post}
+use Rattle.session_model.specs.Contents.{Content}
 use Rattle.session_model.specs.Leaving.{drop_check}
 use Rattle.session_model.specs.declared.answer.Answer.TheVariants.{Stopped}
 use Rattle.session_model.specs.declared.answer.Refusal.{Refusal}
@@ -51,20 +52,20 @@ said_quiet s First draws (Ok said) few = record { none = refl; posts = omega (ar
 said_quiet s Second draws (Ok said) few = record { none = refl; posts = omega (arith, length-append s.posts (said.post ∷ [])); draws = few }
 said_quiet s side draws (Err refusal) few = record { none = refl; posts = omega arith; draws = few }
 
-saying_quiet : (k : Mechanism) (s : Sides) (side : Side) (text : List ℕ) (r : Result Bool Refusal) → IsQuiet s (saying_on k s side text r)
-saying_quiet k s side text (Err refusal) = still_quiet s _ refl refl refl
-saying_quiet k s side text (Ok false) = said_quiet s side s.draws (say_on k (client_of s side) text []) (omega arith)
-saying_quiet k s side text (Ok true) = said_quiet s side (after_draw s.draws) (say_on k (client_of s side) text (next_seed s.key s.draws)) (omega arith)
+saying_quiet : (k : Mechanism) (s : Sides) (side : Side) (content : Content) (r : Result Bool Refusal) → IsQuiet s (saying_on k s side content r)
+saying_quiet k s side content (Err refusal) = still_quiet s _ refl refl refl
+saying_quiet k s side content (Ok false) = said_quiet s side s.draws (say_on k (client_of s side) content []) (omega arith)
+saying_quiet k s side content (Ok true) = said_quiet s side (after_draw s.draws) (say_on k (client_of s side) content (next_seed s.key s.draws)) (omega arith)
 
 -- an act shows nothing
 said_none : (r : Result SaidText Refusal) → IfOk (said_by r) (λ made. made.shown ≡ texts [])
 said_none (Ok said) = refl
 said_none (Err refusal) = tt
 
-saying_none : (k : Mechanism) (c : Client) (text : List ℕ) (draw : Option (List ℕ)) (r : Result Bool Refusal)
-    → IfOk (saying_by k c text draw r) (λ made. made.shown ≡ texts [])
-saying_none k c text draw (Ok turns) = said_none (say_on k c text (given_or [] draw))
-saying_none k c text draw (Err refusal) = tt
+saying_none : (k : Mechanism) (c : Client) (content : Content) (draw : Option (List ℕ)) (r : Result Bool Refusal)
+    → IfOk (saying_by k c content draw r) (λ made. made.shown ≡ texts [])
+saying_none k c content draw (Ok turns) = said_none (say_on k c content (given_or [] draw))
+saying_none k c content draw (Err refusal) = tt
 
 taken_none : (r : Result TakenPacket Refusal) → IfOk (taken_by r) (λ made. made.shown ≡ texts [])
 taken_none (Ok taken) = refl
@@ -76,7 +77,7 @@ leaving_none which (Ok stand) next = refl
 leaving_none which (Err refusal) next = tt
 
 act_none : (k : Mechanism) (c : Client) (act : Act) → IfOk (act_on k c act) (λ made. made.shown ≡ texts [])
-act_none k c (saying text draw) = saying_none k c text draw (say_check c (length text))
+act_none k c (saying content draw) = saying_none k c content draw (say_check c content)
 act_none k c (taking bytes) = taken_none (take_on k c bytes)
 act_none k c (dropping which) = leaving_none which (drop_check which c.inbox c.outbox) (dropped_client c which)
 
@@ -91,7 +92,7 @@ acted_quiet k s side None = still_quiet s _ refl refl refl
 acted_quiet k s side (Some act) = settled_quiet s side (act_on k (client_of s side) act) (act_none k (client_of s side) act)
 
 called_quiet : (k : Mechanism) (s : Sides) (side : Side) (call : SideCall) → IsQuiet s (called_on k s side call)
-called_quiet k s side (says text) = saying_quiet k s side text (say_check (client_of s side) (length text))
+called_quiet k s side (says content) = saying_quiet k s side content (say_check (client_of s side) content)
 called_quiet k s side call = acted_quiet k s side (act_of s side call)
 
 -- ---- a step that was cut off

@@ -20,12 +20,13 @@ use Rattle.relay_core.specs.Boxes.{Box}
 use Rattle.relay_link.specs.Connections.{kept_before}
 use Rattle.session_model.specs.Clients.{Client}
 use Rattle.session_model.specs.declared.answer.Refusal.{Refusal}
-use Rattle.sync_model.specs.Moves.{Ending, Wait, acking, box_is_full, ended, fetching, inbox_full, no_such_box, over, posting, wrong}
+use Rattle.sync_model.specs.Moves.{Ending, Wait, acking, box_is_full, denied_by, ended, fetching, inbox_full, no_such_box, over, posting, wrong}
 use Rattle.sync_model.specs.Parties.{Party}
 use Rattle.sync_model.specs.Scenes.{IsSameScene, MeetsFairly, scene}
 use Rattle.sync_model.specs.Simulation.{AreAlike}
 use Rattle.sync_model.specs.Transfers.{Meeting, begins}
 use Rattle.sync_model.proofs.Scenes.{scenes_alike}
+use Rattle.client.specs.Syncing.Keys.{keys_in}
 use Rattle.client.specs.Syncing.Lines.{answer_line, own_box, peers_box}
 use Rattle.client.specs.Syncing.Parties.{client_party, is_inbox_full, oldest_sent, waiting, world_party}
 use Rattle.duet.specs.Outcomes.{SidesPlayed, synced_on}
@@ -125,6 +126,7 @@ module _ (k : Mechanism) (law : IsLawfulMechanism k) (side : Side) (start : Worl
   are : AreAlike mine theirs (IsOnWay k side start) Fair
   are = record {
     own = ap own_box (client_of-kept k start side);
+    keys = ap keys_in (client_of-kept k start side);
     peers = ap peers_box (client_of-kept k start side);
     stored_line = λ number. refl;
     end_line = λ which. refl;
@@ -148,6 +150,7 @@ module _ (k : Mechanism) (law : IsLawfulMechanism k) (side : Side) (start : Worl
     same_ending inbox_full = refl
     same_ending box_is_full = refl
     same_ending no_such_box = refl
+    same_ending (denied_by rule) = refl
     same_ending wrong = refl
 
     same_last : (wait : Wait) → closing_line mine side wait ≡ closing_line theirs side wait

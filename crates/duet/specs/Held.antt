@@ -1,5 +1,5 @@
 -- Both sides, as the code holds them.
-use Rattle.std.specs.Prelude.{◌<◌, ℕ, List, [], None, length}
+use Rattle.std.specs.Prelude.{◌<◌, Bool, ℕ, List, [], None, length}
 use Rattle.dr_base.specs.declared.position.Side.{Side}
 use Rattle.dr_base.specs.declared.position.Side.TheVariants.{First, Second}
 use Rattle.relay_core.specs.Boxes.{Box}
@@ -12,7 +12,8 @@ use Rattle.dr_model.specs.Machines.Draws.{Draws}
 use Rattle.dr_model.specs.Machines.Events.{Event, cuts, shows_awaiting, shows_inbox}
 use Rattle.kem_laws.specs.Mechanism.{Mechanism}
 use Rattle.client.specs.Beginning.{begin_of, begun_client}
-use Rattle.duet.specs.Outcomes.{SidesBeside, SidesPlayed, opening_boxes}
+use Rattle.duet.specs.Outcomes.{SidesBeside, SidesPlayed}
+use Rattle.duet.specs.Relay.{opening_boxes}
 use Rattle.parties.specs.Shuts.{PartyNow, open_party}
 use Rattle.duet.specs.Shuts.{Shuts}
 
@@ -36,13 +37,13 @@ duet_now key first second posts draws boxes room = record {
   room = room;
 }
 
--- both sides at the beginning of a conversation
-abbrev pub opening_duet : Mechanism → List ℕ → Formats → ℕ → DuetNow
-opening_duet k key formats room =
+-- both sides at the beginning of a conversation, over a relay that may guard their boxes
+abbrev pub opening_duet : Mechanism → List ℕ → Formats → Bool → ℕ → DuetNow
+opening_duet k key formats guarded room =
     let first = opening_of k key formats First in
     let second = opening_of k key formats Second in
     duet_now key (open_party first) (open_party second) [] (record { made = 0; given = None })
-    (opening_boxes first) room
+    (opening_boxes guarded key first) room
 
 -- the network has room for a packet more
 abbrev pub HasPostRoom : DuetNow → Type 0

@@ -4,6 +4,7 @@ pub mod Gathering
 pub mod Held
 pub mod Outcomes
 pub mod Playing
+pub mod Relay
 pub mod Replies
 pub mod Shuts
 pub mod Stops

@@ -3,14 +3,12 @@ use Rattle.std.specs.Prelude.{ℕ, List, [], ◌∷◌, None, Option, Some, fals
 use Rattle.dr_base.specs.declared.position.Side.{Side}
 use Rattle.dr_disk.specs.declared.call.Call.{Call}
 use Rattle.kem_laws.specs.Mechanism.{Mechanism}
-use Rattle.relay_core.specs.Boxes.{Box, empty_box}
-use Rattle.relay_core.specs.Specs.{bare_spec}
+use Rattle.relay_core.specs.Boxes.{Box}
 use Rattle.relay_link.specs.Connections.{kept_before}
 use Rattle.session_model.specs.Clients.{Client}
 use Rattle.session_model.specs.declared.answer.Answer.{Answer}
 use Rattle.sync_model.specs.Scenes.{scene}
 use Rattle.sync_model.specs.Transfers.{Meeting}
-use Rattle.client.specs.Syncing.Lines.{own_box, peers_box}
 use Rattle.client.specs.Syncing.Parties.{client_party, world_party}
 use Rattle.dr_model.specs.Machines.Acts.{Act}
 use Rattle.dr_model.specs.Machines.WorldActs.{act_in}
@@ -169,8 +167,3 @@ deed_on k s deed = unless_barred (deed_side deed) s (freely_on k s deed) (barrin
 
 unfoldable pub deed_in : Mechanism → WorldBeside → Deed → WorldPlayed
 deed_in k s deed = unless_barred (deed_side deed) s (freely_in k s deed) (barring s.shuts deed)
-
--- a relay with the boxes of both sides, which are empty
-abbrev pub opening_boxes : Client → List Box
-opening_boxes first =
-    empty_box (bare_spec (own_box first)) ∷ empty_box (bare_spec (peers_box first)) ∷ []

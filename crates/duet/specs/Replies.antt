@@ -10,7 +10,7 @@ use Rattle.session_model.specs.declared.answer.Answer.TheVariants.{Seeded}
 use Rattle.dr_model.specs.Machines.Steps.{Shown, Step, places, texts}
 use Rattle.dr_model.specs.Machines.Events.{Event}
 use Rattle.answer_lines.specs.Answers.{answer_text}
-use Rattle.answer_lines.specs.Texts.{place_line, text_line}
+use Rattle.answer_lines.specs.Texts.{content_line, place_line}
 use Rattle.scripts.specs.Sides.{acting_side, side_text}
 
 -- the line of a side's event with its answer; a seed has none
@@ -18,9 +18,9 @@ unfoldable pub reply_line : Side → Answer → List ℕ
 reply_line side Seeded = []
 reply_line side answer = side_text side ++ answer_text answer ++ codes "\n"
 
--- the line of a text in a side's inbox
+-- the line of what stands in a side's inbox
 abbrev pub entry_line : Side → Entry → List ℕ
-entry_line side item = text_line (side_text side) item
+entry_line side item = content_line (side_text side) item
 
 -- the line of an own text of a side that waits for a receipt
 abbrev pub waiting_line : Side → Position → List ℕ

@@ -6,7 +6,8 @@ use Rattle.dr_model.specs.Theorems.Fairness.{IsUnforgedCall, IsUnforgedEvent}
 use Rattle.dr_model.specs.Machines.WorldSides.{kept_in, sides_of}
 use Rattle.kem_laws.specs.Mechanism.{Mechanism}
 use Rattle.duet.specs.Shuts.{both_open}
-use Rattle.duet.specs.Outcomes.{Beside, Played, SidesBeside, WorldBeside, deed_in, deed_on, opening_boxes}
+use Rattle.duet.specs.Outcomes.{Beside, Played, SidesBeside, WorldBeside, deed_in, deed_on}
+use Rattle.duet.specs.Relay.{opening_boxes}
 use Rattle.scripts.specs.Deeds.{Deed, acts, fails, reopens, stops, syncs}
 use Rattle.scripts.specs.Script.{Scripted}
 
@@ -24,7 +25,11 @@ after_by act s (deed ∷ deeds) = after_by act (act s deed).next deeds
 abbrev pub beginning_in : Mechanism → Scripted → WorldBeside
 beginning_in k script =
     let w = opening_world script.key script.formats in
-    record { ends = w; boxes = opening_boxes (kept_in k w First); shuts = both_open }
+    record {
+      ends = w;
+      boxes = opening_boxes script.guarded script.key (kept_in k w First);
+      shuts = both_open;
+    }
 
 -- both sides at the beginning of a script, and these boxes
 abbrev pub beginning : Mechanism → Scripted → SidesBeside

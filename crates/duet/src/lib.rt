@@ -26,6 +26,7 @@ mod network;
 mod playing;
 mod posting;
 mod preparing;
+mod relaying;
 mod reply;
 mod sides;
 mod stops;

@@ -66,7 +66,14 @@ pub fn play<K: Kem, O: Sink>(
 {
     let first = script.format(Side::First);
     let second = script.format(Side::Second);
-    let mut duet = match Duet::<K>::new(alloc, first, second, script.key(), script.len()) {
+    let mut duet = match Duet::<K>::new(
+        alloc,
+        first,
+        second,
+        script.key(),
+        script.guarded(),
+        script.len(),
+    ) {
         Ok(duet) => duet,
         Err(BeginError::Memory) => return Err(PlayError::Memory),
         Err(BeginError::NoPair) => return Err(PlayError::NoPair),

@@ -7,9 +7,11 @@ ghost use Rattle.dr_model.specs.Machines.Events.{does, says, takes};
 ghost use Rattle.dr_model.specs.Machines.Steps.{amount_of};
 ghost use Rattle.duet.specs.Acts.{IsPrepared};
 ghost use Rattle.scripts.specs.Seen.{call_event, source_of};
+ghost use Rattle.session_model.specs.Contents.{text_content};
 
 use crate::network::packet_of;
 use crate::sides::Duet;
+use boxes::TEXT_KIND;
 use dr_base::Side;
 use kem_laws::Kem;
 use parties::{ClientCall, Seeded};
@@ -38,10 +40,10 @@ impl<K: Kem> Duet<K> {
     /// needs a seed.
     fn saying<'a>(&mut self, side: Side, text: &'a [u8]) -> Result<ClientCall<'a>, Answer>
         requires { self.old.sides.draws.made < 2 ^ 32 - 1 }
-        ensures { let event = does side (says text.entry.now) in
+        ensures { let event = does side (says (text_content text.entry.now)) in
             IsPrepared K.mechanism self.old self.new side event result }
     {
-        match self.party(side).say_check(text.len()) {
+        match self.party(side).say_check(TEXT_KIND, text) {
             Err(refusal) => Err(Answer::Refused(refusal)),
             Ok(false) => Ok(Call::Say(Seeded { text, seed: None })),
             Ok(true) => {

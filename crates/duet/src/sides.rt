@@ -12,13 +12,13 @@ ghost use Rattle.duet.specs.Tally.{both_reached};
 ghost use Rattle.scripts.specs.Sides.{acting_side};
 
 use crate::draws::Draws;
+use crate::relaying::opening_relay;
 use crate::tally::{SideTally, Tally};
 use bodies::Format;
 use client::Begin;
 use dr_base::{Key32, Side};
 use kem_laws::Kem;
 use parties::{BeginError, ClientCall, Party, Post};
-use relay_core::BoxSpec;
 use relay_link::RelayLink;
 use scripts::{Line, LineCall};
 use session_model::{Answer, Items};
@@ -50,17 +50,20 @@ impl<K: Kem> Model for Duet<K> {
 impl<K: Kem> Duet<K> {
     ghost use Rattle.scripts.specs.Seen.{call_event, event_of};
 
-    /// Both sides before the first event, which seal their texts in these formats, and room in the
-    /// network for this many packets. It takes all memory that the events need.
+    /// Both sides before the first event, which seal their texts in these formats, the relay with
+    /// their boxes, which it may guard, and room in the network for this many packets. It takes all
+    /// memory that the events need.
     pub fn new(
         alloc: Global,
         first_format: Format,
         second_format: Format,
         key: &Key32,
+        guarded: bool,
         room: usize,
     ) -> Result<Self, BeginError>
         ensures ok { let both : Formats = record { first = first_format; second = second_format } in
-            IfOk result (λ duet. duet ≡ opening_duet K.mechanism key.now.bytes both room) }
+            IfOk result
+            (λ duet. duet ≡ opening_duet K.mechanism key.now.bytes both guarded room) }
         ensures few { IfOk result (λ _. room < 2 ^ 32 - 1) }
         ensures pair { IfOk result
             (λ _. IsSome (K.mechanism.meaning.pair_of (agreement_seed key.now.bytes))) }
@@ -83,16 +86,7 @@ impl<K: Kem> Duet<K> {
             Ok(first) => first,
             Err(error) => return Err(error),
         };
-        let names = first.names();
-        let own = BoxSpec {
-            name: names.own,
-            keys: None,
-        };
-        let peers = BoxSpec {
-            name: names.peers,
-            keys: None,
-        };
-        let Ok(relay) = RelayLink::new(alloc, &[own, peers]) else {
+        let Ok(relay) = opening_relay(alloc, first.names(), key, guarded) else {
             return Err(BeginError::Memory);
         };
         begin.side = Side::Second;

@@ -15,7 +15,7 @@ ghost use Rattle.duet.specs.Tally.{IsBelow, counted_of};
 use crate::reply::reply;
 use crate::sides::Duet;
 use crate::tally::Tally;
-use answer_lines::{place_line, text_line};
+use answer_lines::{place_line, write_content};
 use dr_base::Side;
 use dr_ports::{Failed, OutputLine, Sink, write_all};
 use kem_laws::Kem;
@@ -23,8 +23,7 @@ use parties::Party;
 use scripts::{Line, side_name};
 use session_model::{Answer, Items};
 
-/// Writes the line of the text at a place of a side's inbox. The room of the line stands only here.
-#[inline(never)]
+/// Writes the line of the entry at a place of a side's inbox.
 fn write_entry<K: Kem, O: Sink>(
     out: &mut O,
     side: Side,
@@ -36,7 +35,7 @@ fn write_entry<K: Kem, O: Sink>(
         (entry_line side (slice_index_or party.now.kept.inbox at d)) result }
 {
     match party.inbox_at(at as usize) {
-        Some(entry) => write_all(out, text_line(side_name(side), &entry).as_slice()),
+        Some(entry) => write_content(out, side_name(side), &entry),
         None => Ok(()),
     }
 }

@@ -8,8 +8,8 @@ use Rattle.client.specs.Syncing.GoingOver.{GoesOver, IsCourseServed, positions_o
 use Rattle.parties.specs.GoingOver.{SyncsGoOver}
 
 pub gone_over : (k : Mechanism) → GoesOver k → SyncsGoOver k
-gone_over k law = λ prefix again side sender sent receiver received boxes between after first second w v own peers ps sends receives same has room fits holds expected.
+gone_over k law = λ prefix again side sender sent receiver received boxes between after first second w v own peers ps sends receives same has guarded counters room fits holds expected.
     subst (HasOpened k v (peer_of side) (ps ++ positions_of sender)) (sym second.keeps)
     (law prefix again w v side sender receiver boxes own peers first.replies second.replies ps sends receives same
-    first.transfers second.opens has room fits first.served
+    first.transfers second.opens has guarded counters room fits first.served
     (subst (λ (bs : List Box). IsCourseServed k again receiver bs second.replies) first.boxes_are second.served) holds expected)

@@ -34,11 +34,11 @@ seed_whole (Some seed) long needs = long
 -- what an act makes of a lawful client is lawful
 pub made_lawful : (k : Mechanism) (c : Client) (act : Act) (next : Step Client) → IsLawfulMechanism k → IsLawfulClient k c
     → IsChecked c act → act_on k c act ≡ Ok next → IsLawfulClient k next.next
-made_lawful k c (saying text draw) next law l checked is =
+made_lawful k c (saying content draw) next law l checked is =
     let seed = given_or [] draw in
-    said_keeps k (say_on k c text seed) next
-    (λ said gives. say_lawful k c text seed (is_some draw) said law l checked.0 (seed_whole draw checked.1) gives)
-    (ap (saying_by k c text draw) (sym checked.0) ∙ is)
+    said_keeps k (say_on k c content seed) next
+    (λ said gives. say_lawful k c content seed (is_some draw) said law l checked.0 (seed_whole draw checked.1) gives)
+    (ap (saying_by k c content draw) (sym checked.0) ∙ is)
 made_lawful k c (taking bytes) next law l small is =
     taken_keeps k (take_on k c bytes) next (λ taken gives. take_lawful k c bytes taken l small gives) is
 made_lawful k c (dropping which) next law l checked is = drop_lawful k c which next l is

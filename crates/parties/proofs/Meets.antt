@@ -13,7 +13,7 @@ use Rattle.kem_laws.specs.Mechanism.{Mechanism}
 use Rattle.relay_wire.specs.Names.{is_name}
 use Rattle.relay_wire.specs.Requests.{Asked}
 use Rattle.relay_wire.specs.Replies.{IsLawfulReplied, Replied}
-use Rattle.relay_core.specs.Boxes.{AreUnguarded, Box}
+use Rattle.relay_core.specs.Boxes.{Box}
 use Rattle.relay_core.specs.Lawful.{IsLawfulBox}
 use Rattle.relay_core.specs.Streams.{reply_bytes, served}
 use Rattle.relay_pipe.specs.Exchanging.{Exchanges}
@@ -22,8 +22,8 @@ use Rattle.relay_pipe.specs.declared.faults.PeerKind.{PeerKind}
 use Rattle.relay_pipe.specs.Asking.{fault_at}
 use Rattle.session_model.specs.Clients.{Client}
 use Rattle.sync_model.specs.Parties.{Party}
-use Rattle.sync_model.specs.Moves.{Ending, ended, inbox_full, box_is_full, no_such_box, over, wrong, asked_in}
-use Rattle.sync_model.specs.Courses.{Course, all_lines, as_list, course_of}
+use Rattle.sync_model.specs.Moves.{Ending, ended, inbox_full, box_is_full, no_such_box, denied_by, over, wrong}
+use Rattle.sync_model.specs.Courses.{Course, all_lines, as_list, asked_now, course_of}
 use Rattle.sync_model.specs.Carried.{IsCarried, replied_bytes, request_bytes}
 use Rattle.relay_wire.specs.Framed.{request_frame}
 use Rattle.sync_model.specs.Scenes.{scene}
@@ -56,7 +56,7 @@ use Rattle.parties.specs.Meetings.{EndsBy, Plays, Reaches, IsOpenAtRest}
 
 module _ (k : Mechanism) (prefix : List ℕ) (kept : ℕ) (boxes : List Box) (a b : Moment) (now : LinkConnection)
     (own : is_name (own_box a.client.kept) ≡ true) (peers : is_name (peers_box a.client.kept) ≡ true) (packets : ArePackets (waiting a.client.kept))
-    (lawful_boxes : All IsLawfulBox boxes) (open_boxes : AreUnguarded boxes) (passes : a.disk.fate ≡ all_pass) (stands : behind_of now ≡ behind_of (fresh_connection kept boxes))
+    (lawful_boxes : All IsLawfulBox boxes) (passes : a.disk.fate ≡ all_pass) (stands : behind_of now ≡ behind_of (fresh_connection kept boxes))
     (lawful : IsLawfulConnection now) (later : a.sink.faults ≤ b.sink.faults) where
   abbrev first : Client
   first = a.client.kept
@@ -141,7 +141,8 @@ module _ (k : Mechanism) (prefix : List ℕ) (kept : ℕ) (boxes : List Box) (a 
     not_wrong inbox_full at what is ends = absurd (cc)
     not_wrong box_is_full at what is ends = absurd (cc)
     not_wrong no_such_box at what is ends = absurd (cc)
-    not_wrong wrong at what is ends = never_wrong p kept first boxes open_boxes (ap (λ (x : Meeting Client). x.course.wait) (over_so wrong ends) ∙ ends.is_over)
+    not_wrong (denied_by rule) at what is ends = absurd (cc)
+    not_wrong wrong at what is ends = never_wrong p kept first boxes (ap (λ (x : Meeting Client). x.course.wait) (over_so wrong ends) ∙ ends.is_over)
 
     -- a reply comes
     not_unheard : (fault : PeerFault) → IsUnheard p first replies start end fault → ⊥
@@ -196,7 +197,7 @@ module _ (k : Mechanism) (prefix : List ℕ) (kept : ℕ) (boxes : List Box) (a 
         let same : m ≡ synced p first replies now =
         broken p kept first boxes replies cut.rest cut.put now (syncs_so cut.rest cut.put cut.waited cut.told) cut.asked cut.waits cut.left cut.split (omega (arith, rose)) in (
           reached same ends.0,
-          (cut.asked, ap (λ (x : Meeting Client). asked_in p x.course.state x.course.wait) same ∙ cut.waits),
+          (cut.asked, ap (λ (x : Meeting Client). asked_now p x.course) same ∙ cut.waits),
           subst (λ (c : Course Client). Wrote c.lines a b) (ap (λ (x : Meeting Client). x.course) (sym same)) ends.2,
         )
     by_ends (Err Write) ends = (rested ends.stands, unwritten ends, later)

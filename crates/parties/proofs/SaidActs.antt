@@ -1,6 +1,6 @@
 -- A text that was checked, said by a client with the seed that it needs.
 use Rattle.std.proofs.Common.{Bool, List, None, Ok, Option, Result, Some, [], ap, arith, false, refl, subst, sym, true, ℕ, ◌∙◌, ◌∷◌, ◌≡◌}
-use Rattle.std.specs.Prelude.{is_none, is_some, length, ◌&&◌}
+use Rattle.std.specs.Prelude.{is_none, is_some, ◌&&◌}
 use Rattle.dr_base.specs.Causes.{Rose}
 use Rattle.dr_base.specs.declared.key.Key32.{Key32}
 use Rattle.dr_base.specs.declared.position.Position.{Position}
@@ -10,6 +10,7 @@ use Rattle.dr_model.specs.Machines.Acts.{act_on, needs_seed, saying}
 use Rattle.dr_ports.specs.Seeds.{Seeds, drawn}
 use Rattle.dr_ports.specs.States.{DrawsState}
 use Rattle.kem_laws.specs.Mechanism.{Mechanism}
+use Rattle.session_model.specs.Contents.{Content}
 use Rattle.session_model.specs.Clients.{say_check}
 use Rattle.client.specs.Clients.{ClientNow}
 use Rattle.client.specs.Outcomes.{Acts, said_as}
@@ -35,25 +36,25 @@ one_drawn : (seed : Option Key32) (one : List ℕ) → is_some (draw_given seed)
 one_drawn None one asks gives = absurd (let e : false ≡ true = asks in cc)
 one_drawn (Some key) one asks gives = ap Some (gives key refl)
 
-asks_is : (client : ClientNow) (len : ℕ) (b : Bool) → client.closed ≡ None → say_check client.kept len ≡ Ok b
-    → asks_seed client len ≡ b
-asks_is client len b unclosed is =
-    ap (λ closed. is_none closed && needs_seed (say_check client.kept len)) unclosed ∙ ap needs_seed is
+asks_is : (client : ClientNow) (content : Content) (b : Bool) → client.closed ≡ None → say_check client.kept content ≡ Ok b
+    → asks_seed client content ≡ b
+asks_is client content b unclosed is =
+    ap (λ closed. is_none closed && needs_seed (say_check client.kept content)) unclosed ∙ ap needs_seed is
 
 -- a text that was checked, with the seed that it needs
-pub said_acts : {W : Type 0} (draws : W → DrawsState) (k : Mechanism) (text : List ℕ) (old new : ClientNow)
+pub said_acts : {W : Type 0} (draws : W → DrawsState) (k : Mechanism) (content : Content) (old new : ClientNow)
     (start now : MemoryDisk) (source left : W) (seed : Option Key32) (one : List ℕ) (result : Result Position SayRefusal)
-    → old.closed ≡ None → say_check old.kept (length text) ≡ Ok (is_some (draw_given seed))
+    → old.closed ≡ None → say_check old.kept content ≡ Ok (is_some (draw_given seed))
     → (draws source).coming ≡ Some (λ j. one) → (draws source).faults ≡ 0 → (draws left).faults ≡ 0 → ((key : Key32) → seed ≡ Some key → one ≡ key.bytes)
-    → SaysWithDraw state_of draws k text old new start now source left result
-    → Acts state_of (act_on k old.kept (saying text (draw_given seed))) old new start now (said_as result)
-said_acts draws k text old new start now source left seed one result unclosed checked tells before after gives (without_draw ended asks leaves acts) =
-    let none : is_some (draw_given seed) ≡ false = sym (asks_is old (length text) (is_some (draw_given seed)) unclosed checked) ∙ asks in
-    subst (λ draw. Acts state_of (act_on k old.kept (saying text draw)) old new start now (said_as result)) (none_drawn seed none) acts
-said_acts draws k text old new start now source left seed one result unclosed checked tells before after gives (with_draw ended key asks long drew quiet acts back) =
-    let some : is_some (draw_given seed) ≡ true = sym (asks_is old (length text) (is_some (draw_given seed)) unclosed checked) ∙ asks in
+    → SaysWithDraw state_of draws k content old new start now source left result
+    → Acts state_of (act_on k old.kept (saying content (draw_given seed))) old new start now (said_as result)
+said_acts draws k content old new start now source left seed one result unclosed checked tells before after gives (without_draw ended asks leaves acts) =
+    let none : is_some (draw_given seed) ≡ false = sym (asks_is old content (is_some (draw_given seed)) unclosed checked) ∙ asks in
+    subst (λ draw. Acts state_of (act_on k old.kept (saying content draw)) old new start now (said_as result)) (none_drawn seed none) acts
+said_acts draws k content old new start now source left seed one result unclosed checked tells before after gives (with_draw ended key asks long drew quiet acts back) =
+    let some : is_some (draw_given seed) ≡ true = sym (asks_is old content (is_some (draw_given seed)) unclosed checked) ∙ asks in
     let same : Some key.bytes ≡ draw_given seed =
     ap Some (sym (one_seed one key.bytes (draws left).coming (sym tells ∙ drew))) ∙ one_drawn seed one some gives in
-    subst (λ draw. Acts state_of (act_on k old.kept (saying text draw)) old new start now (said_as result)) same acts
-said_acts draws k text old new start now source left seed one result unclosed checked tells before after gives (draw_failed asks rose same stays leaves) =
+    subst (λ draw. Acts state_of (act_on k old.kept (saying content draw)) old new start now (said_as result)) same acts
+said_acts draws k content old new start now source left seed one result unclosed checked tells before after gives (draw_failed asks rose same stays leaves) =
     absurd (let r : Rose 0 0 = subst (λ n. Rose n 0) before (subst (Rose (draws source).faults) after rose) in omega (arith, r))

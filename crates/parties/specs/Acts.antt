@@ -5,6 +5,7 @@ use Rattle.dr_base.specs.Bytes.{AreBytes}
 use Rattle.dr_base.specs.declared.key.Key32.{Key32}
 use Rattle.dr_model.specs.Machines.Acts.{Act, dropping, saying, taking}
 use Rattle.session_model.specs.Clients.{Client, say_check}
+use Rattle.session_model.specs.Contents.{text_content}
 use Rattle.session_model.specs.declared.answer.Which.TheVariants.{Oldest}
 use Rattle.client.specs.Outcomes.{Outcome, acknowledged, faulted, is_closed, refused, undrawn}
 use Rattle.scripts.specs.declared.call.Call.{Call}
@@ -23,14 +24,14 @@ draw_given seed = option_map (λ key. key.bytes) seed
 
 -- the act that a call is
 abbrev pub act_of_call : CallOfClient → Act
-act_of_call (Say said) = saying said.text.now (draw_given said.seed)
+act_of_call (Say said) = saying (text_content said.text.now) (draw_given said.seed)
 act_of_call (Take packet) = taking packet.items
 act_of_call (Drop items n) = dropping (Oldest items n)
 
--- a text passed the check, and has a seed of 32 bytes exactly where it needs one; bytes are bytes
+-- what is said passed the check, and has a seed of 32 bytes exactly where it needs one; bytes are bytes
 abbrev pub IsChecked : Client → Act → Type 0
-IsChecked c (saying text draw) =
-    (say_check c (length text) ≡ Ok (is_some draw)) × IfSome draw (λ seed. length seed ≡ 32)
+IsChecked c (saying content draw) =
+    (say_check c content ≡ Ok (is_some draw)) × IfSome draw (λ seed. length seed ≡ 32)
 IsChecked c (taking bytes) = AreBytes bytes
 IsChecked c _ = ⊤
 

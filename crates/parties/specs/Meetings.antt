@@ -9,8 +9,8 @@ use Rattle.relay_wire.specs.Requests.{Asked}
 use Rattle.relay_core.specs.Boxes.{Box}
 use Rattle.session_model.specs.Clients.{Client}
 use Rattle.sync_model.specs.Parties.{Party}
-use Rattle.sync_model.specs.Moves.{Ending, asked_in, ended, over}
-use Rattle.sync_model.specs.Courses.{all_lines}
+use Rattle.sync_model.specs.Moves.{Ending, ended, over}
+use Rattle.sync_model.specs.Courses.{all_lines, asked_now}
 use Rattle.sync_model.specs.Transfers.{Meeting}
 use Rattle.sync_model.specs.declared.more.More.{More}
 use Rattle.client.specs.Clients.{IsReady}
@@ -36,11 +36,15 @@ pub record Reaches (m : Meeting Client) (b : Moment) (boxes : List Box) : Type 0
 abbrev pub EndsBy : Party Client → Meeting Client → Moment → Moment → Ending → Type 0
 EndsBy p m a b ending = (m.course.wait ≡ over ending) × Wrote (all_lines p m.course) a b
 
--- The scene has ended; or it still waits, and a reply is lost; or a write has failed, in a beginning of its lines.
-abbrev pub Plays : Party Client → Meeting Client → Moment → Moment → List Box → Result More SyncFault → Type 0
+-- The scene has ended; or it still waits, and a reply is lost; or a write has failed, in a beginning
+-- of its lines.
+abbrev pub Plays : Party Client → Meeting Client → Moment → Moment → List Box
+    → Result More SyncFault → Type 0
 Plays p m a b boxes (Ok which) = Reaches m b boxes × EndsBy p m a b (ended which)
-Plays p m a b boxes (Err (Refused refusal)) = Reaches m b boxes × ((ending : Ending) × (sync_fault_of ending ≡ Some (Refused refusal)) × EndsBy p m a b ending)
-Plays p m a b boxes (Err Link) = Reaches m b boxes × ((asked : Asked) × (asked_in p m.course.state m.course.wait ≡ Some asked)) × Wrote m.course.lines a b
+Plays p m a b boxes (Err (Refused refusal)) = Reaches m b boxes
+    × ((ending : Ending) × (sync_fault_of ending ≡ Some (Refused refusal)) × EndsBy p m a b ending)
+Plays p m a b boxes (Err Link) = Reaches m b boxes
+    × ((asked : Asked) × (asked_now p m.course ≡ Some asked)) × Wrote m.course.lines a b
 Plays p m a b boxes (Err Write) = IsOpenAtRest b × WroteBeginning (all_lines p m.course) a b
     × (a.sink.faults ≤ b.sink.faults)
 Plays p m a b boxes (Err (Peer at what)) = ⊥

@@ -1,9 +1,10 @@
 //! One act of a side: a call on its client, in which its disk may fail.
 
-ghost use Rattle.std.specs.Prelude.{◌≡◌, None, Ok, is_some, length};
+ghost use Rattle.std.specs.Prelude.{◌≡◌, None, Ok, is_some};
 ghost use Rattle.dr_disk.specs.MemoryDisks.{state_of};
 ghost use Rattle.dr_model.specs.Machines.Acts.{act_on, saying};
 ghost use Rattle.session_model.specs.Clients.{say_check};
+ghost use Rattle.session_model.specs.Contents.{text_content};
 ghost use Rattle.client.specs.Clients.{IsReady};
 ghost use Rattle.client.specs.Outcomes.{Acts, StaysPassing, dropped_as, said_as, taken_as};
 ghost use Rattle.parties.specs.Acts.{IsChecked, IsEnded, act_of_call, draw_given, ended_as};
@@ -88,8 +89,8 @@ fn say<K: Kem>(
     requires open { client.old.closed ≡ None }
     requires ready { IsReady client.old.kept client.old.store (state_of disk.old) }
     requires checked { let draw = draw_given seed in
-        say_check client.old.kept (length text.now) ≡ Ok (is_some draw) }
-    ensures acts { let act = saying text.now (draw_given seed) in
+        say_check client.old.kept (text_content text.now) ≡ Ok (is_some draw) }
+    ensures acts { let act = saying (text_content text.now) (draw_given seed) in
         Acts state_of (act_on K.mechanism client.old.kept act)
         client.old client.new disk.old disk.new (ended_as result) }
     ensures fate { StaysPassing (state_of disk.old) (state_of disk.new) (ended_as result) }

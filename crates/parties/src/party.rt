@@ -3,6 +3,7 @@
 ghost use Rattle.std.specs.Prelude.{◌≡◌, ◌≤◌, ◌↔◌, ◌<◌, ◌-◌, length, None, Some, IfOk, IfSome, IsNone, IsSome, IsErrOf, option_map, slice_get};
 ghost use Rattle.boxes.specs.Seen.{entry_seen};
 ghost use Rattle.session_model.specs.Clients.{say_check, summary_of};
+ghost use Rattle.session_model.specs.Contents.{content_with};
 ghost use Rattle.dr_model.specs.Machines.Acts.{act_on, standing_with};
 ghost use Rattle.dr_model.specs.Machines.Steps.{settled, step};
 ghost use Rattle.session_model.specs.Schedule.{agreement_seed};
@@ -152,11 +153,12 @@ impl<K: Kem> Party<K> {
         self.client.state()
     }
 
-    /// Whether a text of this length may be said, and then whether that needs a seed.
-    pub fn say_check(&self, len: usize) -> Result<bool, Refusal>
-        ensures { result ≡ say_check self.now.kept len }
+    /// Whether bytes of a kind may be said, a text or a part of a long one, and then whether that
+    /// needs a seed.
+    pub fn say_check(&self, kind: u8, text: &[u8]) -> Result<bool, Refusal>
+        ensures { result ≡ say_check self.now.kept (content_with kind text.now) }
     {
-        self.client.say_check(len)
+        self.client.say_check(kind, text)
     }
 
     /// The kind of the call that closed its client, if it is closed.

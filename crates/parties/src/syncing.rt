@@ -1,7 +1,8 @@
 //! A side syncs with a relay in memory, and the lines of that are written.
 
-ghost use Rattle.std.specs.Prelude.{◌≡◌, None, OnOk};
+ghost use Rattle.std.specs.Prelude.{◌≡◌, ◌+◌, ◌≤◌, ◌++◌, codes, decimal, length, None, OnOk};
 ghost use Rattle.dr_ports.specs.Writing.{Writes};
+ghost use Rattle.dr_ports.specs.declared.output_line.TheConstants.{ROOM};
 ghost use Rattle.relay_link.specs.Connections.{boxes_now, kept_before};
 ghost use Rattle.sync_model.specs.Scenes.{scene};
 ghost use Rattle.client.specs.Syncing.Parties.{client_party};
@@ -13,21 +14,33 @@ use crate::meeting::meet;
 use crate::party::Party;
 use client::{SyncFault, SyncRefusal};
 use dr_base::Side;
-use dr_ports::{Failed, OutputLine, Sink, write_all};
+use dr_ports::{Failed, OutputLine, ROOM, Sink, write_all};
 use kem_laws::Kem;
 use relay_link::RelayLink;
 use scripts::{side_name, side_prefix};
 
-/// What is said of a sync that broke off.
-fn fault_text(fault: SyncFault) -> &'static [u8]
-    ensures { result.now ≡ fault_text fault }
+/// Puts that a relay denied a request, by this rule.
+fn put_denied(line: &mut OutputLine, rule: u8)
+    requires { length line.old + 40 ≤ ROOM }
+    ensures { line.new ≡ line.old ++ (codes "refused Denied " ++ decimal rule ++ codes "\n") }
+{
+    line.text(b"refused Denied ");
+    line.number(u64::from(rule));
+    line.text(b"\n");
+}
+
+/// Puts what is said of a sync that broke off.
+fn put_fault(line: &mut OutputLine, fault: SyncFault)
+    requires { length line.old + 40 ≤ ROOM }
+    ensures { line.new ≡ line.old ++ fault_text fault }
 {
     match fault {
-        SyncFault::Refused(SyncRefusal::InboxFull) => b"refused InboxFull\n",
-        SyncFault::Refused(SyncRefusal::BoxFull) => b"refused BoxFull\n",
-        SyncFault::Refused(SyncRefusal::Unknown) => b"refused Unknown\n",
-        SyncFault::Link => b"link fault\n",
-        _ => b"",
+        SyncFault::Refused(SyncRefusal::InboxFull) => line.text(b"refused InboxFull\n"),
+        SyncFault::Refused(SyncRefusal::BoxFull) => line.text(b"refused BoxFull\n"),
+        SyncFault::Refused(SyncRefusal::Unknown) => line.text(b"refused Unknown\n"),
+        SyncFault::Refused(SyncRefusal::Denied { rule }) => put_denied(line, rule),
+        SyncFault::Link => line.text(b"link fault\n"),
+        _ => {}
     }
 }
 
@@ -40,7 +53,7 @@ fn tell<O: Sink>(out: &mut O, side: Side, fault: SyncFault) -> Result<(), Failed
     }
     let mut line = OutputLine::new();
     line.text(side_name(side));
-    line.text(fault_text(fault));
+    put_fault(&mut line, fault);
     match write_all(out, line.as_bytes()) {
         Err(Failed) => Err(Failed),
         Ok(()) => Ok(()),

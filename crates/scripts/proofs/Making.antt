@@ -6,6 +6,7 @@ use Rattle.std.proofs.lemmas.Fmt.{decimal_digit}
 use Rattle.std.proofs.lemmas.List.{length-append}
 use Rattle.dr_base.specs.declared.position.Side.{Side}
 use Rattle.dr_base.specs.declared.position.Side.TheVariants.{First, Second}
+use Rattle.session_model.specs.Contents.{text_content}
 use Rattle.session_model.specs.declared.answer.Amount.TheVariants.{All, Exactly}
 use Rattle.session_model.specs.declared.answer.Items.TheVariants.{Packets, Texts}
 use Rattle.dr_model.specs.Machines.Events.{does, drops, of_number, says, takes}
@@ -27,7 +28,7 @@ use Rattle.scripts.proofs.ScriptLines.{AreLines, lines_both, text_counted, witho
 numbered : (text : List ℕ) (n : ℕ) → n < 2 ^ 32 → Without 10 text → Without 10 (text ++ decimal n)
 numbered text n h w = both_without text (decimal n) 10 w (digits_without (decimal n) 10 (omega arith) (digits_of n h))
 
-said_line : (side : Side) (round : ℕ) → round < 2 ^ 32 → Without 10 (line_text (acts (does side (says (codes "m" ++ decimal round)))))
+said_line : (side : Side) (round : ℕ) → round < 2 ^ 32 → Without 10 (line_text (acts (does side (says (text_content (codes "m" ++ decimal round))))))
 unfolding line_text event_text call_text source_text side_text
 said_line First round h = numbered (codes "first say m") round h (without_tested 10 (codes "first say m") refl)
 said_line Second round h = numbered (codes "second say m") round h (without_tested 10 (codes "second say m") refl)
@@ -55,7 +56,7 @@ IsWithin most Rests = ⊤
 
 turn_lines : (round most : ℕ) (turn : Turn) → round < 2 ^ 32 → most < 2 ^ 32 → IsWithin most turn → AreLines (turn_deeds round turn)
 unfolding turn_deeds
-turn_lines round most (Says side) h few within = (record { sayable = tt; one = said_line side round h }, (record { sayable = omega arith; one = sent_line side }, tt))
+turn_lines round most (Says side) h few within = (record { sayable = refl; one = said_line side round h }, (record { sayable = omega arith; one = sent_line side }, tt))
 turn_lines round most (Takes side nth) h few within =
     let fits : nth < 2 ^ 32 = omega arith in
     (record { sayable = fits; one = taken_line side nth fits }, (record { sayable = tt; one = done_line side }, tt))

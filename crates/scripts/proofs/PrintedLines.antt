@@ -12,8 +12,9 @@ use Rattle.hex.proofs.HexLemmas.{decode_sized-encode_lower}
 use Rattle.dr_base.specs.declared.position.Position.{Position}
 use Rattle.dr_base.specs.declared.position.Side.{Side}
 use Rattle.dr_base.specs.declared.position.Side.TheVariants.{First, Second}
+use Rattle.session_model.specs.Contents.{Content}
 use Rattle.session_model.specs.declared.answer.Items.TheVariants.{Packets, Texts}
-use Rattle.dr_model.specs.Machines.Events.{Event, PacketSource, SideCall, cuts, does, drops, of_bytes, of_flip, of_number, of_position, says, seeds, shows_awaiting, shows_inbox, shows_state, takes}
+use Rattle.dr_model.specs.Machines.Events.{Event, PacketSource, SideCall, cuts, does, drops, drops_long, of_bytes, of_flip, of_number, of_position, says, seeds, shows_awaiting, shows_inbox, shows_state, takes}
 use Rattle.scripts.specs.Number.{script_number_read}
 use Rattle.scripts.specs.Printed.{IsNumbered, IsSayableCall, IsSayableEvent, IsSayableSource, call_text, event_text, source_text}
 use Rattle.answer_lines.specs.Answers.{drop_word, position_text}
@@ -83,10 +84,11 @@ takes_alone (of_bytes bytes) = refl
 
 pub called_back : (call : SideCall) → IsSayableCall call → called_words (call_text call) ≡ Some call
 unfolding after_prefix call_text drop_word drop_words called_words say_words take_words flip_words bytes_words
-called_back (says text) h = refl
+called_back (says content) h = ap (λ (said : Content). Some (says said)) (sym h)
 called_back (takes source) h = takes_alone source ∙ ap (λ o. option_or (option_map takes o) None) (source_back source h)
 called_back (drops Packets amount) h = ap (λ o. option_or (option_map (drops Packets) o) None) (amount_back amount h)
 called_back (drops Texts amount) h = ap (option_map (drops Texts)) (amount_back amount h)
+called_back (drops_long id) h = absurd h
 
 -- ---- lines
 

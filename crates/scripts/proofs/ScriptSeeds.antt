@@ -7,9 +7,8 @@ use Rattle.dr_base.specs.declared.position.Side.{Side}
 use Rattle.dr_disk.specs.declared.call.Mode.{Mode}
 use Rattle.dr_model.specs.Machines.Events.{Event, SideCall}
 use Rattle.dr_model.specs.Theorems.Fairness.{IsSeedWhole}
-use Rattle.dr_model.specs.Conversations.Formats.{Formats}
 use Rattle.scripts.specs.Deeds.{Deed, acts, fails, reopens, stops, syncs}
-use Rattle.scripts.specs.Heads.{head_read}
+use Rattle.scripts.specs.Heads.{Headed, head_read}
 use Rattle.scripts.specs.Script.{deeds_of, kem_read, key_read, keyed, after_kem, lines_of, or_bad, script_of, script_of_lines, scripted, Scripted, with_deed}
 use Rattle.scripts.specs.Deeds.{HasWholeSeed}
 use Rattle.scripts.specs.Number.{script_number_read}
@@ -115,18 +114,18 @@ unfolding deeds_of
 whole_deeds number [] = All-nil HasWholeSeed
 whole_deeds number (line ∷ lines) = whole_or_bad (line_read line) number (deeds_of (suc number) lines) (whole_line line) (whole_deeds (suc number) lines)
 
-whole_scripted : (kem : KemName) (key : List ℕ) (formats : Formats) (deeds : Result (List Deed) ℕ)
+whole_scripted : (kem : KemName) (key : List ℕ) (head : Headed) (deeds : Result (List Deed) ℕ)
     → IfOk deeds (All HasWholeSeed)
-    → IfOk (scripted kem key formats deeds) (λ script. All HasWholeSeed script.deeds)
-whole_scripted kem key formats (Err bad) h = tt
-whole_scripted kem key formats (Ok deeds) h = h
+    → IfOk (scripted kem key head deeds) (λ script. All HasWholeSeed script.deeds)
+whole_scripted kem key head (Err bad) h = tt
+whole_scripted kem key head (Ok deeds) h = h
 
 whole_keyed : (kem : KemName) (key : Option (List ℕ)) (lines : List (List ℕ))
     → IfOk (keyed kem key lines) (λ script. All HasWholeSeed script.deeds)
 whole_keyed kem None lines = tt
 whole_keyed kem (Some key) lines =
     let head = head_read lines in
-    whole_scripted kem key head.formats (deeds_of head.number head.lines) (whole_deeds head.number head.lines)
+    whole_scripted kem key head (deeds_of head.number head.lines) (whole_deeds head.number head.lines)
 
 whole_after : (kem : Option KemName) (lines : List (List ℕ)) → IfOk (after_kem kem lines) (λ script. All HasWholeSeed script.deeds)
 whole_after None lines = tt

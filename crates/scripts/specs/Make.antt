@@ -1,7 +1,8 @@
 -- A script that is made from a number: in each round a side says a text, or takes one of the packets that the other side made.
-use Rattle.std.specs.Prelude.{ℕ, zero, suc, ◌+◌, ◌/◌, ◌%◌, ◌^◌, ◌==◌, nat_lt, List, [], ◌∷◌, ◌++◌, replicate, codes, decimal, if◌then◌else◌}
+use Rattle.std.specs.Prelude.{ℕ, zero, suc, false, ◌+◌, ◌/◌, ◌%◌, ◌^◌, ◌==◌, nat_lt, List, [], ◌∷◌, ◌++◌, replicate, codes, decimal, if◌then◌else◌}
 use Rattle.dr_base.specs.declared.position.Side.{Side}
 use Rattle.dr_base.specs.declared.position.Side.TheVariants.{First, Second}
+use Rattle.session_model.specs.Contents.{text_content}
 use Rattle.session_model.specs.declared.answer.Amount.TheVariants.{All, Exactly}
 use Rattle.session_model.specs.declared.answer.Items.TheVariants.{Packets, Texts}
 use Rattle.dr_model.specs.Machines.Events.{does, drops, of_number, says, takes}
@@ -66,7 +67,7 @@ round_of m =
 -- the deeds of a round: what was said leaves the outbox, what was taken leaves the inbox
 unfoldable pub turn_deeds : ℕ → Turn → List Deed
 turn_deeds round (Says side) =
-    acts (does side (says (codes "m" ++ decimal round)))
+    acts (does side (says (text_content (codes "m" ++ decimal round))))
     ∷ acts (does side (drops Packets (Exactly 1))) ∷ []
 turn_deeds round (Takes side nth) =
     acts (does side (takes (of_number nth))) ∷ acts (does side (drops Texts All)) ∷ []
@@ -92,6 +93,7 @@ made_script rounds number = record {
   kem = Open;
   key = replicate 32 0;
   formats = both_plain;
+  guarded = false;
   deeds = made_deeds rounds number;
   rounds = rounds;
 }

@@ -4,9 +4,10 @@ use Rattle.hex.specs.Hex.{IsBytes, encode_lower}
 use Rattle.dr_base.specs.declared.position.Position.{Position}
 use Rattle.dr_disk.specs.declared.call.Mode.{Mode}
 use Rattle.dr_disk.specs.declared.call.Mode.TheVariants.{Fill, New, Old}
+use Rattle.session_model.specs.Contents.{text_content}
 use Rattle.session_model.specs.declared.answer.Amount.{Amount}
 use Rattle.session_model.specs.declared.answer.Amount.TheVariants.{All, Exactly}
-use Rattle.dr_model.specs.Machines.Events.{Event, PacketSource, SideCall, cuts, does, drops, of_bytes, of_flip, of_number, of_position, says, seeds, shows_awaiting, shows_inbox, shows_state, takes}
+use Rattle.dr_model.specs.Machines.Events.{Event, PacketSource, SideCall, cuts, does, drops, drops_long, of_bytes, of_flip, of_number, of_position, says, seeds, shows_awaiting, shows_inbox, shows_state, takes}
 use Rattle.answer_lines.specs.Answers.{drop_word, position_text}
 use Rattle.scripts.specs.Deeds.{Deed, acts, fails, reopens, stops, syncs}
 use Rattle.scripts.specs.Sides.{side_text}
@@ -27,9 +28,10 @@ source_text (of_bytes bytes) = codes "bytes " ++ encode_lower bytes
 
 -- what a side is called to do
 unfoldable pub call_text : SideCall → List ℕ
-call_text (says text) = codes "say " ++ text
+call_text (says content) = codes "say " ++ content.bytes
 call_text (takes source) = source_text source
 call_text (drops items amount) = drop_word items ++ amount_text amount
+call_text (drops_long id) = codes "done-long " ++ decimal id
 
 -- the line that says an event: a seed is no side's, and no line says that an event is cut off
 unfoldable pub event_text : Event → List ℕ
@@ -85,9 +87,12 @@ IsSayableSource (of_flip p bit) = IsNumbered p × (bit < 2 ^ 32)
 IsSayableSource (of_bytes bytes) = (length bytes ≤ HEX_LIMIT) × IsBytes bytes
 
 abbrev pub IsSayableCall : SideCall → Type 0
-IsSayableCall (says text) = ⊤
+-- a line says texts
+IsSayableCall (says content) = content ≡ text_content content.bytes
 IsSayableCall (takes source) = IsSayableSource source
 IsSayableCall (drops items amount) = IsAmount amount
+-- no line says this one
+IsSayableCall (drops_long id) = ⊥
 
 -- whether an event is cut off, no line says
 abbrev pub IsSayableEvent : Event → Type 0

@@ -1,5 +1,5 @@
 -- A script: its lines, and what they say together.
-use Rattle.std.specs.Prelude.{◌≡◌, ℕ, suc, List, [], ◌∷◌, length, Option, Some, None, Result, Ok, Err, codes, if◌then◌else◌}
+use Rattle.std.specs.Prelude.{◌≡◌, ℕ, suc, Bool, List, [], ◌∷◌, length, Option, Some, None, Result, Ok, Err, codes, if◌then◌else◌}
 use Rattle.std.specs.Option.{option_and_then}
 use Rattle.std.specs.Result.{result_ok}
 use Rattle.hex.specs.Hex.{decode_sized}
@@ -45,12 +45,14 @@ pub record AreCounted (text : List ℕ) (count : ℕ) : Type 0 where
   pub read : AreRead text
   pub count_is : count ≡ length (deeds_in text)
 
--- what a script says: the mechanism, the key of both sessions, how each side seals its texts, and
--- what happens; and of how many rounds it was made, 0 where it was read
+-- what a script says: the mechanism, the key of both sessions, how each side seals its texts,
+-- whether the relay guards their boxes, and what happens; and of how many rounds it was made, 0 where
+-- it was read
 pub record Scripted : Type 0 where
   pub kem : KemName
   pub key : List ℕ
   pub formats : Formats
+  pub guarded : Bool
   pub deeds : List Deed
   pub rounds : ℕ
 
@@ -64,15 +66,21 @@ kem_read line =
 unfoldable pub key_read : List ℕ → Option (List ℕ)
 key_read line = option_and_then (λ digits. result_ok (decode_sized digits 32)) (after_prefix (codes "key ") line)
 
--- a script from its mechanism, its key, its formats and its deeds
-abbrev pub scripted : KemName → List ℕ → Formats → Result (List Deed) ℕ → Result Scripted ℕ
-scripted kem key formats (Ok deeds) =
-    Ok (record { kem = kem; key = key; formats = formats; deeds = deeds; rounds = 0 })
-scripted kem key formats (Err bad) = Err bad
+-- a script from its mechanism, its key, its head and its deeds
+abbrev pub scripted : KemName → List ℕ → Headed → Result (List Deed) ℕ → Result Scripted ℕ
+scripted kem key head (Ok deeds) = Ok (record {
+  kem = kem;
+  key = key;
+  formats = head.formats;
+  guarded = head.guarded;
+  deeds = deeds;
+  rounds = 0;
+})
+scripted kem key head (Err bad) = Err bad
 
--- and from its head, which has the lines of its deeds
+-- the deeds are those of the lines after the head
 abbrev pub headed : KemName → List ℕ → Headed → Result Scripted ℕ
-headed kem key head = scripted kem key head.formats (deeds_of head.number head.lines)
+headed kem key head = scripted kem key head (deeds_of head.number head.lines)
 
 -- a script from its key, if the second line has one, and the lines after it
 abbrev pub keyed : KemName → Option (List ℕ) → List (List ℕ) → Result Scripted ℕ

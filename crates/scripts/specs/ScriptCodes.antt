@@ -114,14 +114,15 @@ formats_code =
 
 abbrev pub script_code : Coded Scripted
 script_code =
-    code_by (KemName × (List ℕ × (Formats × (List Deed × ℕ))))
+    code_by (KemName × (List ℕ × (Formats × (Bool × (List Deed × ℕ)))))
     (coded× kem_code (coded× (coded_list coded_ℕ)
-    (coded× formats_code (coded× (coded_list deed_code) coded_ℕ))))
-    (λ s. (s.kem, (s.key, (s.formats, (s.deeds, s.rounds)))))
+    (coded× formats_code (coded× coded_bool (coded× (coded_list deed_code) coded_ℕ)))))
+    (λ s. (s.kem, (s.key, (s.formats, (s.guarded, (s.deeds, s.rounds))))))
     (λ e. record {
       kem = e.0;
       key = e.1.0;
       formats = e.1.1.0;
-      deeds = e.1.1.1.0;
-      rounds = e.1.1.1.1;
+      guarded = e.1.1.1.0;
+      deeds = e.1.1.1.1.0;
+      rounds = e.1.1.1.1.1;
     }) (λ _. refl)

@@ -2,6 +2,7 @@
 use Rattle.std.specs.Prelude.{ℕ, List, [], Option, Some, None}
 use Rattle.std.specs.Borrow.{Bor}
 use Rattle.dr_base.specs.declared.position.Side.{Side}
+use Rattle.session_model.specs.Contents.{text_content}
 use Rattle.session_model.specs.declared.answer.Amount.{Amount}
 use Rattle.dr_model.specs.Machines.Events.{Event, PacketSource, SideCall, does, drops, of_bytes, of_flip, of_number, of_position, says, seeds, shows_awaiting, shows_inbox, shows_state, takes}
 use Rattle.scripts.specs.Heads.{Headed}
@@ -35,7 +36,7 @@ abbrev pub CallOfLine : Type 0
 CallOfLine = Call (Bor (List ℕ)) Source Amount
 
 abbrev pub call_seen : CallOfLine → SideCall
-call_seen (Say text) = says text.now
+call_seen (Say text) = says (text_content text.now)
 call_seen (Take source) = takes (source_of source)
 call_seen (Drop items amount) = drops items amount
 
@@ -55,6 +56,7 @@ event_of (State side) = shows_state side
 abbrev pub head_fields : Head → Headed
 head_fields head = record {
   formats = record { first = head.first; second = head.second };
+  guarded = head.guarded;
   number = head.number;
   lines = lines_of head.rest.now;
 }

@@ -10,11 +10,12 @@ use Rattle.dr_disk.specs.declared.call.Mode.TheVariants.{Fill, New, Old}
 use Rattle.dr_base.specs.declared.position.Position.{Position}
 use Rattle.dr_base.specs.declared.position.Side.{Side}
 use Rattle.dr_base.specs.declared.position.Side.TheVariants.{First, Second}
+use Rattle.session_model.specs.Contents.{text_content}
 use Rattle.session_model.specs.declared.answer.Amount.{Amount}
 use Rattle.session_model.specs.declared.answer.Amount.TheVariants.{All, Exactly}
 use Rattle.session_model.specs.declared.answer.Items.{Items}
 use Rattle.session_model.specs.declared.answer.Items.TheVariants.{Packets, Texts}
-use Rattle.dr_model.specs.Machines.Events.{Event, PacketSource, SideCall, does, drops, of_bytes, of_flip, of_number, of_position, says, seeds, shows_awaiting, shows_inbox, shows_state, takes}
+use Rattle.dr_model.specs.Machines.Events.{Event, PacketSource, SideCall, does, drops, drops_long, of_bytes, of_flip, of_number, of_position, says, seeds, shows_awaiting, shows_inbox, shows_state, takes}
 use Rattle.answer_lines.specs.Answers.{drop_word}
 use Rattle.scripts.specs.Deeds.{Deed, acts, fails, reopens, stops, syncs}
 use Rattle.scripts.specs.Number.{script_number_read}
@@ -52,7 +53,7 @@ text_after word words =
 
 -- `say` and a text
 unfoldable pub say_words : List ℕ → Option SideCall
-say_words words = option_map says (text_after (codes "say") words)
+say_words words = option_map (λ text. says (text_content text)) (text_after (codes "say") words)
 
 -- `#` and a number, or a position
 abbrev pub packet_read : List ℕ → Option PacketSource
@@ -146,9 +147,10 @@ is_exact All = false
 is_exact (Exactly n) = true
 
 abbrev pub may_stop : SideCall → Bool
-may_stop (says text) = true
+may_stop (says content) = true
 may_stop (takes source) = is_network source
 may_stop (drops items amount) = is_exact amount
+may_stop (drops_long id) = false
 
 abbrev pub if_stops : SideCall → Option SideCall
 if_stops call = if may_stop call then Some call else None

@@ -1,7 +1,8 @@
 //! The lines of a script before its deeds. Those after its key may be left out.
 
-ghost use Rattle.std.specs.Prelude.{◌≡◌, ◌≤◌, length, option_map};
-ghost use Rattle.scripts.specs.Heads.{formats_read, head_read};
+ghost use Rattle.std.specs.Prelude.{◌≡◌, ◌≤◌, ◌+◌, length, option_map};
+ghost use Rattle.dr_model.specs.Conversations.Formats.{Formats};
+ghost use Rattle.scripts.specs.Heads.{formats_read, guard_read, head_read};
 ghost use Rattle.scripts.specs.Script.{kem_read, key_read, lines_of};
 ghost use Rattle.scripts.specs.Seen.{head_fields};
 
@@ -18,6 +19,8 @@ pub struct Head<'a> {
     pub first: Format,
     /// How Second does.
     pub second: Format,
+    /// Whether the relay guards the boxes of both.
+    pub guarded: bool,
     /// The number of the line that the rest begins with.
     pub number: u32,
     pub rest: &'a [u8],
@@ -64,27 +67,47 @@ fn parse_formats(line: &[u8]) -> Option<(Format, Format)>
     Some((first, second))
 }
 
-/// The head of what stands after the key.
-#[tactic(auto, unfolding(crate::specs::Heads::head_read))]
-pub fn parse_head(text: &[u8]) -> Head<'_>
-    ensures head { head_fields result ≡ head_read (lines_of text.entry.now) }
-    ensures early { result.number ≤ 4 }
+/// The head of a script in these formats, of which this text begins with the line of this number.
+/// That line may be `guard`.
+#[tactic(auto, unfolding(crate::specs::Heads::guard_read))]
+fn parse_guard(first: Format, second: Format, number: u32, text: &[u8]) -> Head<'_>
+    requires { number ≤ 4 }
+    ensures head { let formats : Formats = record { first = first; second = second } in
+        head_fields result ≡ guard_read formats number (lines_of text.entry.now) }
+    ensures early { result.number ≤ number + 1 }
     ensures within { length result.rest.now ≤ length text.entry.now }
 {
     if let Some((line, rest)) = split_line(text) {
-        if let Some((first, second)) = parse_formats(line) {
+        if line == b"guard".as_slice() {
             return Head {
                 first,
                 second,
-                number: 4,
+                guarded: true,
+                number: number + 1,
                 rest,
             };
         }
     }
     Head {
-        first: Format::Plain,
-        second: Format::Plain,
-        number: 3,
+        first,
+        second,
+        guarded: false,
+        number,
         rest: text,
     }
+}
+
+/// The head of what stands after the key.
+#[tactic(auto, unfolding(crate::specs::Heads::head_read))]
+pub fn parse_head(text: &[u8]) -> Head<'_>
+    ensures head { head_fields result ≡ head_read (lines_of text.entry.now) }
+    ensures early { result.number ≤ 5 }
+    ensures within { length result.rest.now ≤ length text.entry.now }
+{
+    if let Some((line, rest)) = split_line(text) {
+        if let Some((first, second)) = parse_formats(line) {
+            return parse_guard(first, second, 4, rest);
+        }
+    }
+    parse_guard(Format::Plain, Format::Plain, 3, text)
 }

@@ -86,6 +86,7 @@ impl Script {
             key: Key32 { bytes: [0; 32] },
             first: Format::Plain,
             second: Format::Plain,
+            guarded: false,
             text,
             count,
             rounds,

@@ -1,5 +1,6 @@
 //! A script's text, read whole before its first line runs. Its first line names the mechanism, its
-//! second the key of both sessions, its third may name their formats; each later line is a deed.
+//! second the key of both sessions; a line for their formats and one for guarded boxes may follow.
+//! Each later line is a deed.
 
 ghost use Rattle.std.specs.Prelude.{◌≡◌, ◌≤◌, ◌<◌, ◌^◌, length, Ok, Err, IfOk, IfErr};
 ghost use Rattle.dr_model.specs.Conversations.Formats.{side_format};
@@ -25,13 +26,15 @@ pub enum KemName {
 }
 
 /// A script that was read or made: a mechanism, the key of both sessions, how each seals its texts,
-/// and the deeds in order. It owns its text.
+/// whether their boxes are guarded, and the deeds in order. It owns its text.
 #[derive(Drop)]
 pub struct Script {
     pub(crate) kem: KemName,
     pub(crate) key: Key32,
     pub(crate) first: Format,
     pub(crate) second: Format,
+    /// Whether the relay guards the boxes of both.
+    pub(crate) guarded: bool,
     /// The lines of the deeds, none of which is bad.
     pub(crate) text: Vec<u8>,
     /// How many lines these are.
@@ -52,6 +55,7 @@ impl Model for Script {
       kem = s.kem;
       key = s.key.bytes;
       formats = record { first = s.first; second = s.second };
+      guarded = s.guarded;
       deeds = deeds_in s.text.items;
       rounds = s.rounds;
     } };
@@ -101,6 +105,7 @@ impl Script {
             key,
             first: head.first,
             second: head.second,
+            guarded: head.guarded,
             text,
             count,
             rounds: 0,
@@ -131,6 +136,13 @@ impl Script {
         }
     }
 
+    /// Whether the relay guards the boxes of both sides.
+    pub fn guarded(&self) -> bool
+        ensures { result ≡ self.now.guarded }
+    {
+        self.guarded
+    }
+
     /// How many deeds there are.
     pub fn len(&self) -> usize
         ensures { result ≡ length self.now.deeds }
@@ -157,7 +169,7 @@ impl Script {
 /// first bad one.
 fn count_lines(text: &[u8], from: u32) -> Result<usize, u32>
     requires few { length text.now < 2 ^ 31 }
-    requires early { from ≤ 4 }
+    requires early { from ≤ 5 }
     ensures ok { IfOk result (AreCounted text.now) }
     ensures read { IfOk result (λ _. deeds_of from (lines_of text.now) ≡ Ok (deeds_in text.now)) }
     ensures err { IfErr result (λ number. deeds_of from (lines_of text.now) ≡ Err number) }

@@ -1,4 +1,4 @@
-use Rattle.std.proofs.Common.{◌∙◌, ℕ, List, Err, ap, ap₂, inr, subst, sym, arith}
+use Rattle.std.proofs.Common.{◌∙◌, ℕ, Bool, List, Err, ap, ap₂, inr, subst, sym, arith}
 use Rattle.std.specs.Prelude.{IsSome}
 use Rattle.bodies.specs.declared.format.Format.{Format}
 use Rattle.dr_ports.specs.Writing.{TookBeginning}
@@ -13,12 +13,12 @@ use Rattle.duet.proofs.playing.play.Goals as goal
 pub deeds-init : goal.deeds-init
 deeds-init g c =
     let k = g.K.Kem.mechanism in
-    let begun : List ℕ → Format → Format → DuetNow = λ key first second.
-    opening_duet k key (record { first = first; second = second }) c.len.result in
+    let begun : List ℕ → Bool → Format → Format → DuetNow = λ key guarded first second.
+    opening_duet k key (record { first = first; second = second }) guarded c.len.result in
     plays_first k _ _ _ _ _ c.len.result c.lines-lines.ensures c.len.ensures
     (c.in-Ok.ensures.ok
-    ∙ ap (λ key. begun key c.format-first.result c.format-second.result) c.key.ensures
-    ∙ ap₂ (begun c.args.script.now.key) c.format-first.ensures c.format-second.ensures)
+    ∙ ap₂ (λ key guarded. begun key guarded c.format-first.result c.format-second.result) c.key.ensures c.guarded.ensures
+    ∙ ap₂ (begun c.args.script.now.key c.args.script.now.guarded) c.format-first.ensures c.format-second.ensures)
     c.in-Ok.ensures.few (c.new-tally.ensures ∙ ap opening_tally c.rounds.ensures)
 
 pub deeds-preserved : goal.deeds-preserved

@@ -19,7 +19,7 @@ returns-clause-plays g c =
     let after = moment c.sync-result.new.self (state_of c.sync-result.new.disk) (g.O.Sink.at c.sync-result.new.out) in
     plays k c.args.prefix.now (kept_before c.args.lost) (boxes_now link) before after now
     (sym (ap is_name c.names-names.ensures.own) ∙ c.names-names.ensures.own_lawful) (sym (ap is_name c.names-names.ensures.peers) ∙ c.names-names.ensures.peers_lawful)
-    c.may_post.ensures.packets (subst (All IsLawfulBox) c.relay.ensures.boxes c.lawful.ensures) c.relay.ensures.unguarded c.requires.passes
+    c.may_post.ensures.packets (subst (All IsLawfulBox) c.relay.ensures.boxes c.lawful.ensures) c.requires.passes
     (c.sync-result.ensures.link.stands ∙ ap behind_of c.connect.ensures) c.relay-relay.ensures.lawful c.sync-result.ensures.later c.sync-result.result
     (subst (λ (x : LinkConnection). Syncs (client_party k c.args.prefix.now c.args.client.now.kept) before after (connection_port x) (connection_port now) c.sync-result.result)
     c.connect.ensures (c.sync-result.ensures.syncs c.requires.is_open).exact)
@@ -38,6 +38,6 @@ returns-clause-served g c =
     let done = (c.sync-result.ensures.syncs c.requires.is_open).done syncs.replies syncs_by in
     comes_to_end k c.args.prefix.now (kept_before c.args.lost) (boxes_now link) before after now
     (sym (ap is_name c.names-names.ensures.own) ∙ c.names-names.ensures.own_lawful) (sym (ap is_name c.names-names.ensures.peers) ∙ c.names-names.ensures.peers_lawful)
-    c.may_post.ensures.packets (subst (All IsLawfulBox) c.relay.ensures.boxes c.lawful.ensures) c.relay.ensures.unguarded c.requires.passes
+    c.may_post.ensures.packets (subst (All IsLawfulBox) c.relay.ensures.boxes c.lawful.ensures) c.requires.passes
     (c.sync-result.ensures.link.stands ∙ ap behind_of c.connect.ensures) c.relay-relay.ensures.lawful c.sync-result.ensures.later c.sync-result.result
     syncs c.may_post.ensures.few done.transfer done.opens

@@ -1,5 +1,5 @@
 use Rattle.std.proofs.Common.{◌∙◌, ◌++◌, List, ap, arith}
-use Rattle.std.specs.Prelude.{replicate}
+use Rattle.std.specs.Prelude.{false, replicate}
 use Rattle.scripts.specs.Deeds.{Deed}
 use Rattle.scripts.specs.Heads.{both_plain}
 use Rattle.scripts.specs.Script.{Scripted}
@@ -22,6 +22,7 @@ returns c =
       kem = Open;
       key = replicate 32 0;
       formats = both_plain;
+      guarded = false;
       deeds = deeds;
       rounds = c.args.rounds;
     } in script) all.1
