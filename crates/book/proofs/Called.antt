@@ -6,6 +6,7 @@ use Rattle.dr_disk.specs.State.{DiskState}
 use Rattle.dr_model.specs.Machines.Steps.{Step, has_effect}
 use Rattle.dr_ports.specs.States.{DrawsState}
 use Rattle.kem_laws.specs.Mechanism.{Mechanism}
+use Rattle.session_model.specs.Contents.{Content}
 use Rattle.session_model.specs.Clients.{Client}
 use Rattle.session_model.specs.declared.answer.Refusal.{Refusal}
 use Rattle.client.specs.Outcomes.{IsKeeperEffected, KeeperActs, Outcome, acknowledged, faulted, is_closed, refused, said_as, undrawn}
@@ -28,14 +29,14 @@ module _ {X : Type 0} (state : X → DiskState) (made : Result (Step Client) Ref
       by false did = ap (λ (r : RowNow). r.at) did.2
   stays_at (faulted call) does = ap (λ (p : RowPlace). p.at) does.stays
 
-pub says_at : {X W : Type 0} (state : X → DiskState) (draws : W → DrawsState) (k : Mechanism) (text : List ℕ)
+pub says_at : {X W : Type 0} (state : X → DiskState) (draws : W → DrawsState) (k : Mechanism) (content : Content)
     (old new : RowNow) (start now : X) (source left : W) (result : Result Position SayRefusal)
-    → KeeperSaysWithDraw row_keeping state draws k text old new start now source left result → new.at ≡ old.at
-says_at state draws k text old new start now source left result (without_draw r none same acts) =
+    → KeeperSaysWithDraw row_keeping state draws k content old new start now source left result → new.at ≡ old.at
+says_at state draws k content old new start now source left result (without_draw r none same acts) =
     stays_at state _ old new start now (said_as r) acts
-says_at state draws k text old new start now source left result (with_draw r seed asks long drew quiet acts back) =
+says_at state draws k content old new start now source left result (with_draw r seed asks long drew quiet acts back) =
     stays_at state _ old new start now (said_as r) acts
-says_at state draws k text old new start now source left result (draw_failed asks rose same stays leaves) =
+says_at state draws k content old new start now source left result (draw_failed asks rose same stays leaves) =
     ap (λ (r : RowNow). r.at) stays
 
 -- what is said of a row in use, by the book and the row's place

@@ -10,6 +10,10 @@ use Rattle.kem_laws.specs.Mechanism.{Mechanism}
 use Rattle.session_model.specs.Clients.{Client}
 use Rattle.book.specs.Opening.{IsRowRead}
 
+-- what is true of a value is true of its equal
+pub carried : {A : Type 0} {x y : A} → x ≡ y → (P : A → Type 0) → P x → P y
+carried is P true_of = subst P is true_of
+
 of_reader : {R : Type 0} (has_read : R → List ℕ → Type 0) (o : Option R) (held : Option BookRow)
     → HasReadRow has_read o held → (reader : R) → o ≡ Some reader
     → (row : BookRow) × (held ≡ Some row) × has_read reader row.text

@@ -94,8 +94,10 @@ module _ (resting : RestsWithRows) (old : BookNow) (at : ℕ) (row : Row Client)
   replacing : Span start now (IsOldOrNewBook old.store.rows old.store.held Staged.held start)
       → IsReplacingInCell (row_cell old.store.rows row.name) row.kept after start now
   replacing span =
-      subst (λ (o : Option (List ℕ)). Span start now (IsOldOrNewInCell (row_cell old.store.rows row.name) start o (Some (record_text after)))) recorded_was
-      (subst (λ (o : Option (List ℕ)). Span start now (IsOldOrNewInCell (row_cell old.store.rows row.name) start (recorded row.name old.store.held) o)) recorded_next
+      subst (λ (o : Option (List ℕ)). Span start now (IsOldOrNewInCell (row_cell old.store.rows row.name) start o
+      (Some (record_text after)))) recorded_was
+      (subst (λ (o : Option (List ℕ)). Span start now (IsOldOrNewInCell (row_cell old.store.rows row.name) start
+      (recorded row.name old.store.held) o)) recorded_next
       (cell_moment old.store.rows row.name old.store.held Staged.held beside_next start has now span))
 
   reads_row : Span start now (IsOldOrNewBook old.store.rows old.store.held Staged.held start)
@@ -122,7 +124,8 @@ module _ (resting : RestsWithRows) (old : BookNow) (at : ℕ) (row : Row Client)
         (ap (λ (s : BookStore). s.rows) stores ∙ takes.rows) (ap name_of there ∙ sym (ap name_of here))
         (ap₂ (λ (l : Rows Client) i. set l i None) rows same ∙ set-set old.rows at (Some Next) None);
     any_moment =
-        subst (λ (o : Option (Row Client)). IsReplacingInCell (row_cell old.store.rows (known_name (name_of o))) (kept_of o) after start now)
+        subst (λ (o : Option (Row Client)). IsReplacingInCell (row_cell old.store.rows (known_name (name_of o))) (kept_of o) after
+        start now)
         (sym here) (replacing takes.any_moment);
     reads =
         subst (λ (o : Option (Row Client)). ReadsOutsideCell (row_cell old.store.rows (known_name (name_of o))) start now)
@@ -141,7 +144,8 @@ module _ (resting : RestsWithRows) (old : BookNow) (at : ℕ) (row : Row Client)
   pub lost_by : (fault : StoreFault) → Takes (Err fault)
       → IsLostInCell (cell_of row_keeping (record { book = old; at = at })) (kept_of (get_or old.rows at None)) after fault.call start now
   lost_by fault takes =
-      subst (λ (o : Option (Row Client)). IsLostInCell (row_cell old.store.rows (known_name (name_of o))) (kept_of o) after fault.call start now)
+      subst (λ (o : Option (Row Client)). IsLostInCell (row_cell old.store.rows (known_name (name_of o))) (kept_of o) after
+      fault.call start now)
       (sym here) (record {
         any_moment = replacing takes.any_moment;
         reads = reads_row takes.any_moment takes.reads;

@@ -1,8 +1,8 @@
 pub mod Places
-mod Stored
-mod Only
+pub mod Stored
+pub mod Only
 mod Filled
-mod Imaged
+pub mod Imaged
 mod Committed
 mod Staged
 mod Counted
@@ -10,7 +10,15 @@ mod Kept
 mod Stepped
 mod Called
 mod Begun
+mod Few
 mod Renewed
 mod Opened
+pub mod AsRead
 mod Said
 mod Runs
+mod Fanned
+mod Asked
+mod FanStaged
+mod FanSteps
+mod FanPut
+mod FanMachine

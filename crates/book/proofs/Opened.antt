@@ -1,61 +1,85 @@
 -- A book that was opened, and renewed: what is left is as what was read.
-use Rattle.std.proofs.Common.{[], Err, List, None, Ok, Option, Result, Some, ap, arith, false, get_or, inl, inr, length, refl, subst, sym, true, ⊎_elim, ℕ, ◌<◌, ◌≤◌, ◌∙◌, ◌≡◌, ◌≢◌, ◌⊎◌}
-use Rattle.std.specs.Prelude.{IfErr, IsOk, OnOk}
+use Rattle.std.proofs.Common.{[], Err, List, None, Ok, Option, Some, ap, false, get_or, inl, inr, length, refl, subst, sym, true, ⊎_elim, ℕ, ◌<◌, ◌∙◌, ◌≡◌, ◌⊎◌}
 use Rattle.dr_base.specs.Causes.{Rose}
 use Rattle.dr_disk.specs.Called.{Went}
-use Rattle.dr_disk.specs.Spans.{FailsLater, HasFailedAsTold, IsQuiet, Span}
-use Rattle.dr_disk.specs.State.{Always, DiskState, all_pass}
+use Rattle.dr_disk.specs.Spans.{FailsLater, IsQuiet, Span, StaysTold}
+use Rattle.dr_disk.specs.State.{Always, DiskState, IsLawful, OnSeen, all_pass}
 use Rattle.dr_disk.specs.declared.call.Call.{Call}
-use Rattle.dr_disk.proofs.Calling.{then_failed, then_passed}
+use Rattle.dr_disk.proofs.Calling.{then_failed}
 use Rattle.dr_disk.proofs.Steps.{spans, widen}
 use Rattle.pages.specs.Around.{IsSameOutside}
-use Rattle.pages.proofs.Around.{outside_twice}
+use Rattle.pages.proofs.Around.{outside_twice, same_outside}
 use Rattle.book_model.specs.Rows.{Rows}
 use Rattle.book_store.proofs.Books.Listed.{mark_at}
 use Rattle.book_store.specs.AtRest.{IsBookMarked, row_mark, row_marks}
 use Rattle.book_store.specs.Marks.{RowMark}
 use Rattle.relay_wire.specs.Names.{is_name}
-use Rattle.book_store.specs.Committing.{HasRows, IsOldOrNewBook, KeepsOutsideBook, call_of}
+use Rattle.book_store.specs.Committing.{HasRows, IsOldOrNewBook, call_of}
 use Rattle.book_store.specs.Layout.{book_layout}
 use Rattle.book_store.specs.LikeRead.{IsEntryOrLikeBook, IsLikeReadBook}
 use Rattle.book_store.specs.Opened.{IsBookOpened, IsBookRefused}
 use Rattle.book_store.specs.Shown.{BookRow, stored_rows}
 use Rattle.book_store.specs.Staging.{Rests}
 use Rattle.book_store.specs.Store.{BookStore}
-use Rattle.book_store.specs.declared.errors.BookOpenError.{BookOpenError}
-use Rattle.book_store.specs.declared.errors.BookOpenError.TheVariants.{DamagedRow, DamagedTable, Memory, StoreFault as Faulted}
+use Rattle.book_store.specs.declared.errors.BookOpenError.TheVariants.{StoreFault as Faulted}
 use Rattle.book_store.specs.declared.errors.StoreFault.{StoreFault}
 use Rattle.kem_laws.specs.Mechanism.{Mechanism}
 use Rattle.session_model.specs.Clients.{Client}
 use Rattle.client.specs.Opening.{client_record_fault}
-use Rattle.book.specs.Books.{IsStoreReady}
 use Rattle.book.specs.Opening.{AreRowsRead, IsAsReadBook, IsEntryOrAsReadBook}
 use Rattle.book.specs.Rows.{stored}
 use Rattle.book.proofs.Imaged.{RestsWithRows}
 
 -- as read is what is like what was read
-like_as_read : (k : Mechanism) (rows : ℕ) (start : DiskState) (c : List ℕ) → IsEntryOrLikeBook rows start c
-    → IsEntryOrAsReadBook k rows start c
-like_as_read k rows start c either = ⊎_elim (λ was. inl was) (λ like. inr (record {
+pub to_as_read : (k : Mechanism) (rows : ℕ) (start : DiskState) (c : List ℕ) → IsLikeReadBook rows start c
+    → IsAsReadBook k rows start c
+to_as_read k rows start c like = record {
   read = like.read;
   told = like.told;
   same = inl like.same;
   undamaged = like.undamaged;
   outside = like.outside;
-})) either
+}
 
-module _ (resting : RestsWithRows) (k : Mechanism) (rows : ℕ) (sessions : Rows Client) (start mid now : DiskState) (store : BookStore)
-    (is : IsBookOpened (client_record_fault k) rows start mid store) (read : AreRowsRead k store.held sessions) where
+-- and what was read itself
+pub read_itself : (k : Mechanism) (rows : ℕ) (start : DiskState) → OnSeen (IsAsReadBook k rows start) start
+read_itself k rows start s told = record {
+  read = s;
+  told = told;
+  same = inl refl;
+  undamaged = λ whole. whole;
+  outside = same_outside (book_layout rows) s;
+}
+
+like_as_read : (k : Mechanism) (rows : ℕ) (start : DiskState) (c : List ℕ) → IsEntryOrLikeBook rows start c
+    → IsEntryOrAsReadBook k rows start c
+like_as_read k rows start c either = ⊎_elim (λ was. inl was) (λ like. inr (to_as_read k rows start c like)) either
+
+module _ (resting : RestsWithRows) (k : Mechanism) (rows : ℕ) (start mid : DiskState) (store : BookStore)
+    (is : IsBookOpened (client_record_fault k) rows start mid store) where
   held_in : (c : List ℕ) → mid.image c → stored_rows store.rows c ≡ store.held
   unfolding Rests
   held_in c left = (resting store.rows store.mark store.held c (is.at_rest c left).0).are
 
+  -- the rows are those that were read
+  pub held_as_read : IsLawful mid → StaysTold start mid → (s : List ℕ) → start.seen ≡ Some s → store.held ≡ stored_rows rows s
+  held_as_read lawful stays s told =
+      let seen = stays s told in
+      let left = lawful.seen_now seen.0 seen.1 in
+      let like = (is.at_rest seen.0 left).1 in
+      let held : stored_rows rows seen.0 ≡ store.held =
+      subst (λ n. stored_rows n seen.0 ≡ store.held) is.rows_are (held_in seen.0 left) in
+      sym held ∙ like.same ∙ ap (stored_rows rows) (cc (sym like.told ∙ told))
+
+module _ (resting : RestsWithRows) (k : Mechanism) (rows : ℕ) (sessions : Rows Client) (start mid now : DiskState) (store : BookStore)
+    (is : IsBookOpened (client_record_fault k) rows start mid store) (read : AreRowsRead k store.held sessions) where
   -- what stands while it is renewed, as what was read
   renewed : (c : List ℕ) → IsOldOrNewBook store.rows store.held (stored sessions) mid c → IsAsReadBook k rows start c
   renewed c has =
       let d = has.frame.0 in
       let like = (is.at_rest d has.frame.1).1 in
-      let held : stored_rows rows d ≡ store.held = subst (λ n. stored_rows n d ≡ store.held) is.rows_are (held_in d has.frame.1) in
+      let held : stored_rows rows d ≡ store.held = subst (λ n. stored_rows n d ≡ store.held) is.rows_are
+      (held_in resting k rows start mid store is d has.frame.1) in
       let were : stored_rows rows like.read ≡ store.held = sym like.same ∙ held in
       let there = subst (λ n. HasRows n store.held c ⊎ HasRows n (stored sessions) c) is.rows_are has.either in
       record {
@@ -67,6 +91,13 @@ module _ (resting : RestsWithRows) (k : Mechanism) (rows : ℕ) (sessions : Rows
         outside = outside_twice (book_layout rows) like.read d c like.outside
             (subst (λ n. IsSameOutside (book_layout n) d c) is.rows_are has.frame.2);
       }
+
+  module _ (next : Span mid now (IsOldOrNewBook store.rows store.held (stored sessions) mid)) where
+    pub alike : Always (IsAsReadBook k rows start) now
+    alike c left = ⊎_elim (λ was. to_as_read k rows start c (is.at_rest c was).1) (λ has. renewed c has) (next.last c left)
+
+    pub reads_alike : IsLawful now → OnSeen (IsAsReadBook k rows start) now
+    reads_alike lawful s told = alike s (lawful.seen_now s told)
 
   pub opened_moment : Span start mid (IsEntryOrLikeBook rows start)
       → Span mid now (IsOldOrNewBook store.rows store.held (stored sessions) mid)

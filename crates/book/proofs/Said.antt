@@ -17,6 +17,7 @@ use Rattle.book.specs.Stepping.{SaysAsStep, WasDrawn, was_none, was_seed}
 use Rattle.book.specs.declared.refusals.BookRefusal.{BookRefusal}
 use Rattle.book.specs.declared.refusals.BookRefusal.TheVariants.{Of}
 use Rattle.book.proofs.Stepped.{act_step}
+use Rattle.session_model.specs.Contents.{text_content}
 
 -- what the row's session answers, as the book does
 abbrev pub in_book : Result Position SayRefusal → Result Position (BookRefusal SayRefusal)
@@ -27,23 +28,44 @@ module _ (k : Mechanism) (name text : List ℕ) (old new : BookNow) (at : ℕ) (
     (disk : DiskState) (ready : IsBookReady old disk) (is_open : old.closed ≡ None)
     {X W : Type 0} (state : X → DiskState) (draws : W → DrawsState) (start now : X) (source left : W) where
   stepped : (result : Result Position SayRefusal) (draw : Option (List ℕ)) → WasDrawn draws source left draw
-      → KeeperActs row_keeping state (act_on k (row_keeping.kept (row_in old at)) (saying text draw)) (row_in old at) (row_in new at)
+      → KeeperActs row_keeping state (act_on k (row_keeping.kept (row_in old at)) (saying (text_content text) draw)) (row_in old at)
+      (row_in new at)
       start now (said_as result)
       → SaysAsStep draws k text name old new source left (in_book result)
-  stepped (Ok position) draw was does =
-      (draw, was, act_step k name (saying text draw) old new at is disk ready state start now (said_as (Ok position)) is_open does)
-  stepped (Err (Closed call)) draw was does =
-      (draw, was, act_step k name (saying text draw) old new at is disk ready state start now (said_as (Err (Closed call))) is_open does)
-  stepped (Err (Refused refusal)) draw was does =
-      (draw, was, act_step k name (saying text draw) old new at is disk ready state start now (said_as (Err (Refused refusal))) is_open does)
+  stepped (Ok position) draw was does = (
+    draw,
+    was,
+    act_step k name (saying (text_content text) draw) old new at is disk ready state start now (said_as (Ok position)) is_open
+        does,
+  )
+  stepped (Err (Closed call)) draw was does = (
+    draw,
+    was,
+    act_step k name (saying (text_content text) draw) old new at is disk ready state start now (said_as (Err (Closed call)))
+        is_open does,
+  )
+  stepped (Err (Refused refusal)) draw was does = (
+    draw,
+    was,
+    act_step k name (saying (text_content text) draw) old new at is disk ready state start now (said_as (Err (Refused refusal)))
+        is_open does,
+  )
   stepped (Err DrawFault) draw was does = absurd does
-  stepped (Err (NoPair seed)) draw was does =
-      (draw, was, act_step k name (saying text draw) old new at is disk ready state start now (said_as (Err (NoPair seed))) is_open does)
-  stepped (Err (StoreFault call)) draw was does =
-      (draw, was, act_step k name (saying text draw) old new at is disk ready state start now (said_as (Err (StoreFault call))) is_open does)
+  stepped (Err (NoPair seed)) draw was does = (
+    draw,
+    was,
+    act_step k name (saying (text_content text) draw) old new at is disk ready state start now (said_as (Err (NoPair seed)))
+        is_open does,
+  )
+  stepped (Err (StoreFault call)) draw was does = (
+    draw,
+    was,
+    act_step k name (saying (text_content text) draw) old new at is disk ready state start now (said_as (Err (StoreFault call)))
+        is_open does,
+  )
 
   pub says_step : (result : Result Position SayRefusal)
-      → KeeperSaysWithDraw row_keeping state draws k text (row_in old at) (row_in new at) start now source left result
+      → KeeperSaysWithDraw row_keeping state draws k (text_content text) (row_in old at) (row_in new at) start now source left result
       → SaysAsStep draws k text name old new source left (in_book result)
   says_step result (without_draw r none same does) = stepped r None (was_none same) does
   says_step result (with_draw r seed asks long drew quiet does back) =

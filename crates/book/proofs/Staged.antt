@@ -103,7 +103,8 @@ module _ (n : ℕ) (staged : BookStore) (standing : List (Option BookRow)) (star
     went : (result : Result Unit StoreFault) → TakesPlaceOf 0 staged new standing mid end result
         → Called (n + change_calls 0 staged) call_of start end result
     went (Ok u) takes =
-        passed_both {T = Unit} {U = Unit} {V = Unit} n (change_calls 0 staged) call_of call_of call_of tt u u start mid end staging takes.went.calls
+        passed_both {T = Unit} {U = Unit} {V = Unit} n (change_calls 0 staged) call_of call_of call_of tt u u start mid end
+        staging takes.went.calls
     went (Err fault) takes =
         failed_later {T = Unit} {U = Unit} {V = Unit} n (change_calls 0 staged) call_of call_of call_of tt fault fault
         start mid end (KeepsRows staged.rows standing start) (IsOldOrNewBook staged.rows standing staged.held mid)

@@ -23,6 +23,7 @@ use Rattle.book.specs.Naming.{IsPlaceOf}
 use Rattle.book.specs.RowKeepings.{RowNow, row_keeping}
 use Rattle.book.specs.declared.refusals.BookRefusal.{BookRefusal}
 use Rattle.book.specs.declared.refusals.BookRefusal.TheVariants.{Closed, NoName, Of}
+use Rattle.session_model.specs.Contents.{text_content}
 
 -- the row at a place, of a book
 abbrev pub row_in : BookNow → ℕ → RowNow
@@ -47,18 +48,18 @@ pub record RowSays {X W : Type 0} (state : X → DiskState) (draws : W → Draws
     (text : List ℕ) (old new : RowNow) (start now : X) (source left : W)
     (result : Result Position SayRefusal) : Type 0 where
   -- exactly what the side makes of it, but for a failing draw or call on the disk
-  pub exact : KeeperSaysWithDraw row_keeping state draws k text old new start now source left result
+  pub exact : KeeperSaysWithDraw row_keeping state draws k (text_content text) old new start now source left result
   pub ready : OnOk result (IsKeeperOpen row_keeping new (state now))
   -- in each world that the row stands for, at every moment
   pub in_worlds : (w : World) (side : Side) → IsKeeperIn row_keeping k w side old
-      → KeeperSaysIn row_keeping draws k w side text old new (state start) (state now) source left
+      → KeeperSaysIn row_keeping draws k w side (text_content text) old new (state start) (state now) source left
       (said_as result)
   -- once it is said, the key of its position is used up, and nothing that a crash leaves gives it
   pub spent : IfOk result (λ position. (w : World) (side : Side)
       → IsKeeperIn row_keeping k w side old
       → (draw : Option (List ℕ))
-      × KeeperDraws row_keeping draws old (length text) source left draw
-      × IsSpentInCell (cell_of row_keeping old) k (act_in k w side (saying text draw)).next side
+      × KeeperDraws row_keeping draws old (text_content text) source left draw
+      × IsSpentInCell (cell_of row_keeping old) k (act_in k w side (saying (text_content text) draw)).next side
       position (state now))
   pub fate : StaysPassing (state start) (state now) (said_as result)
 

@@ -13,3 +13,7 @@ pub mod Opening
 pub mod Renewing
 pub mod Stepping
 pub mod Witness
+pub mod Fans
+pub mod Fanning
+pub mod Putting
+pub mod FanStepping

@@ -3,22 +3,24 @@ use Rattle.std.specs.Prelude.{List, None, Ok, Option, Some, get_or, length, true
 use Rattle.book_model.specs.Rows.{Row, Rows}
 use Rattle.book_store.specs.Reading.{IsSameOutsideBook, IsUndamagedBook, book_reading, has_rows}
 use Rattle.book_store.specs.Shown.{BookRow, stored_rows}
-use Rattle.dr_disk.specs.State.{DiskState, OnSeen}
+use Rattle.dr_disk.specs.State.{Always, DiskState, OnSeen}
 use Rattle.kem_laws.specs.Mechanism.{Mechanism}
 use Rattle.session_model.specs.Clients.{Client}
+use Rattle.session_record.specs.Lawful.{IsLawfulClient}
 use Rattle.session_record.specs.Record.{record_read}
 use Rattle.session_record.specs.Versions.{is_newest}
 use Rattle.client.specs.Opening.{client_record_fault}
 use Rattle.book.specs.Books.{BookNow, IsBookReady}
 use Rattle.book.specs.Rows.{stored}
 
--- what a store has in a row is read as this session under its name, in whatever version
+-- what a store has in a row is read as this session under its name, in whatever version; and it is
+-- a lawful one
 abbrev pub IsRowRead : Mechanism → Option BookRow → Option (Row Client) → Type 0
 IsRowRead k None None = ⊤
 IsRowRead k None (Some row) = ⊥
 IsRowRead k (Some held) None = ⊥
 IsRowRead k (Some held) (Some row) =
-    (row.name ≡ held.name) × (record_read k held.text ≡ Ok row.kept)
+    (row.name ≡ held.name) × (record_read k held.text ≡ Ok row.kept) × IsLawfulClient k row.kept
 
 -- and so in each row
 abbrev pub AreRowsRead : Mechanism → List (Option BookRow) → Rows Client → Type 0
@@ -28,6 +30,10 @@ AreRowsRead k held rows = (r : ℕ) → IsRowRead k (get_or held r None) (get_or
 abbrev pub AreNewest : List (Option BookRow) → Type 0
 AreNewest held =
     (r : ℕ) (row : BookRow) → get_or held r None ≡ Some row → is_newest row.text ≡ true
+
+-- where what a read gives has records, they are in the newest version
+abbrev pub IsBookReadNewest : ℕ → DiskState → Type 0
+IsBookReadNewest rows = OnSeen (λ s. AreNewest (stored_rows rows s))
 
 -- the same sessions, all in the newest version
 abbrev pub AreRenewed : Mechanism → List (Option BookRow) → List (Option BookRow) → Type 0
@@ -52,7 +58,7 @@ abbrev pub IsBookRead : Mechanism → ℕ → Rows Client → List ℕ → Type 
 IsBookRead k rows sessions s = (held : List (Option BookRow))
     × (book_reading (client_record_fault k) rows s ≡ has_rows held) × AreRowsRead k held sessions
 
--- an open book of what was read, at rest
+-- an open book of what was read, at rest. Each image is as what was read.
 pub record IsOpenedBook (k : Mechanism) (rows : ℕ) (start now : DiskState) (book : BookNow)
     : Type 0 where
   pub is_open : book.closed ≡ None
@@ -60,3 +66,4 @@ pub record IsOpenedBook (k : Mechanism) (rows : ℕ) (start now : DiskState) (bo
   pub count : book.store.rows ≡ rows
   pub read : OnSeen (IsBookRead k rows book.rows) start
   pub ready : IsBookReady book now
+  pub alike : Always (IsAsReadBook k rows start) now

@@ -1,17 +1,36 @@
 -- Rows whose records are in an earlier version are staged in the newest one.
-use Rattle.std.specs.Prelude.{Bool, List, None, Ok, Option, Some, false, get_or, length, true, ℕ, ◌<◌, ◌≤◌, ◌≡◌}
+use Rattle.std.specs.Prelude.{Bool, List, None, Ok, Option, Some, false, get_or, length, true, ℕ, ◌*◌, ◌+◌, ◌<◌, ◌≤◌, ◌≡◌}
 use Rattle.book_model.specs.Rows.{Row, Rows}
+use Rattle.pages.specs.Counted.{one_of}
+use Rattle.pages.specs.Stops.{puts, retires}
 use Rattle.book_store.specs.Committing.{KeepsRows, ReadsOutsideBook, StagesRow, call_of}
 use Rattle.book_store.specs.Shown.{BookRow}
 use Rattle.book_store.specs.Staging.{IsStagedOver}
-use Rattle.book_store.specs.Store.{BookStore, with_row}
+use Rattle.book_store.specs.Store.{BookStore, drops_at, with_row}
 use Rattle.book_store.specs.declared.errors.StoreFault.{StoreFault}
+use Rattle.book_store.specs.declared.layout.TheConstants.{ROW_MOST}
 use Rattle.dr_disk.specs.Called.{Went}
 use Rattle.dr_disk.specs.Spans.{Span}
 use Rattle.dr_disk.specs.State.{Always, DiskState}
 use Rattle.session_model.specs.Clients.{Client}
 use Rattle.session_record.specs.Record.{record_text}
 use Rattle.book.specs.Rows.{stored_row}
+
+-- ---- how many calls
+
+-- how many of a fault's call are a write or a sync
+abbrev pub missed_by : StoreFault → ℕ
+missed_by fault = one_of fault.call
+
+-- each row's pages are written, all rows are committed, and as many pages are wiped
+abbrev pub renewings : ℕ → ℕ
+renewings rows = ROW_MOST * rows + (puts 0 + retires (ROW_MOST * rows))
+
+-- no row dropped more pages than a record has
+abbrev pub HasFewDrops : BookStore → Type 0
+HasFewDrops store = (r : ℕ) → length (drops_at store r) ≤ ROW_MOST
+
+-- ---- row by row
 
 -- a row's record was staged in the newest version
 pub record IsStagedNewest (at : ℕ) (row : Option (Row Client)) (old new : BookStore)

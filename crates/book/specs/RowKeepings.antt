@@ -35,6 +35,7 @@ no_client = record {
   };
   inbox = [];
   outbox = [];
+  relay = None;
 }
 
 abbrev pub kept_of : Option (Row Client) → Client

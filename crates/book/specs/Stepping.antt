@@ -7,6 +7,7 @@ use Rattle.dr_model.specs.Machines.Acts.{Act, dropping, saying, taking}
 use Rattle.dr_ports.specs.Seeds.{drawn}
 use Rattle.dr_ports.specs.States.{DrawsState}
 use Rattle.kem_laws.specs.Mechanism.{Mechanism}
+use Rattle.session_model.specs.Contents.{text_content}
 use Rattle.session_model.specs.declared.answer.Answer.TheVariants.{Dropped}
 use Rattle.session_model.specs.declared.answer.Which.{Which}
 use Rattle.client.specs.Outcomes.{Outcome, dropped_as, said_as, taken_as}
@@ -45,7 +46,7 @@ abbrev pub SaysAsStep : {W : Type 0} → (W → DrawsState) → Mechanism → Li
 SaysAsStep draws k text name old new source left (Err (Of DrawFault)) = new ≡ old
 SaysAsStep draws k text name old new source left result =
     (draw : Option (List ℕ)) × WasDrawn draws source left draw
-    × IsStep k old new name (calls (acts (saying text draw))) (replied_as said_as result)
+    × IsStep k old new name (calls (acts (saying (text_content text) draw))) (replied_as said_as result)
 
 abbrev pub TakesAsStep : Mechanism → List ℕ → List ℕ → BookNow → BookNow
     → Result Position (BookRefusal TakeRefusal) → Type 0

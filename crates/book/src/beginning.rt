@@ -17,6 +17,7 @@ ghost use Rattle.book.specs.Stepping.{begun_as, forgotten_as};
 use crate::book::Book;
 use crate::refusals::{BookBeginError, ForgetError};
 use crate::row::Row;
+use crate::seat::Seat;
 use crate::shelf::Shelf;
 use crate::storing::{clear_row, put_row};
 use bodies::Format;
@@ -56,7 +57,7 @@ impl<K: Kem> Shelf<K> {
             self.new.book.store self.old.book.store.held
             (D.state disk.old) (D.state disk.new) result }
     {
-        let len = write_now(&row.core, &mut self.text);
+        let len = write_now(row.core.core(), &mut self.text);
         match put_row(
             &mut self.store,
             disk,
@@ -137,12 +138,19 @@ impl<K: Kem> Book<K> {
                 rows: self.shelf.count(),
             });
         };
+        let Ok(seat) = Seat::take(alloc) else {
+            return Err(BookBeginError::Memory);
+        };
         let core = match Core::begin(alloc, side, format, key) {
             Ok(core) => core,
             Err(CoreBeginError::Memory) => return Err(BookBeginError::Memory),
             Err(CoreBeginError::NoPair) => return Err(BookBeginError::NoPair),
         };
-        match self.shelf.add(disk, at, Row { name: own, core }) {
+        let row = Row {
+            name: own,
+            core: seat.fill(core),
+        };
+        match self.shelf.add(disk, at, row) {
             Ok(()) => return Ok(()),
             Err(fault) => return Err(BookBeginError::StoreFault { call: fault.call }),
         }

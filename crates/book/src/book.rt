@@ -1,6 +1,6 @@
 //! The book, and what it shows.
 
-ghost use Rattle.std.specs.Prelude.{◌≡◌, ◌≤◌, IfErr, IfOk, IfSome, None, get_or, is_some, length, option_map, slice_get};
+ghost use Rattle.std.specs.Prelude.{◌≡◌, ◌≤◌, IfErr, IfOk, IfSome, None, Some, get_or, is_some, length, option_map, slice_get};
 ghost use Rattle.boxes.specs.Posts.{post_under};
 ghost use Rattle.boxes.specs.Seen.{entry_seen};
 ghost use Rattle.book_model.specs.Rows.{under};
@@ -13,6 +13,7 @@ use crate::refusals::NoName;
 use crate::row::row_name;
 use crate::shelf::Shelf;
 use boxes::Entry;
+use client::Core;
 use dr_base::Position;
 use kem_laws::Kem;
 use session_model::Summary;
@@ -35,6 +36,17 @@ impl<K: Kem> Model for Book<K> {
 }
 
 impl<K: Kem> Book<K> {
+    /// The session of a name. `NoName` exactly where no row has the name.
+    pub fn core(&self, name: &str) -> Result<&Core<K>, NoName>
+        ensures none { IfErr result (λ _. under name.now self.now.rows ≡ None) }
+        ensures shows { IfOk result (λ core. under name.now self.now.rows ≡ Some core.now) }
+    {
+        match self.shelf.look(name) {
+            Some(core) => Ok(core),
+            None => Err(NoName),
+        }
+    }
+
     /// The text of a session's inbox at a place, from 0, the oldest first. `NoName` exactly where
     /// no row has the name.
     pub fn inbox(&self, name: &str, at: usize) -> Result<Option<Entry<'_>>, NoName>

@@ -21,7 +21,7 @@ use kem_laws::Kem;
 use paged_records::lengthen;
 
 /// Writes the record that a draft leads to, and answers its length.
-fn write_draft<K: Kem>(core: &Core<K>, draft: &Draft<'_, K>, text: &mut Vec<u8>) -> usize
+pub(crate) fn write_draft<K: Kem>(core: &Core<K>, draft: &Draft<'_, K>, text: &mut Vec<u8>) -> usize
     requires draft { IsDraftOf K.mechanism core.now draft.now }
     requires room { HasRecordMemory row_bounds text.old }
     ensures text { HasText row_bounds text.new result }
@@ -59,7 +59,7 @@ pub(crate) fn keep_row<K: Kem, D: Disk>(
 {
     match row {
         Some(row) => {
-            let len = write_draft(&row.core, &draft, text);
+            let len = write_draft(row.core.core(), &draft, text);
             match put_row(store, disk, at, row.name.copied(), text, len) {
                 Ok(()) => {
                     row.core.accept(draft);

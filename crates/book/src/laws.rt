@@ -1,7 +1,7 @@
 //! What holds over whole runs of a book. The functions have no code: a caller that needs a fact
 //! calls them.
 
-ghost use Rattle.std.specs.Prelude.{◌≡◌, ◌≤◌, ◌+◌, ℕ, List, None, Some, slice_get};
+ghost use Rattle.std.specs.Prelude.{◌≡◌, ◌≤◌, ◌+◌, ℕ, List, None, Result, Some, slice_get};
 ghost use Rattle.boxes.specs.Posts.{Post};
 ghost use Rattle.book_model.specs.Independence.{AreAlikeFor, asked_of, replies_of};
 ghost use Rattle.book_model.specs.Rows.{under};
@@ -21,13 +21,20 @@ ghost use Rattle.session_model.specs.declared.answer.Refusal.{Refusal};
 ghost use Rattle.client.specs.Moments.{AreLinkedInCell, CellStandsStill, Known, LeavesCellWhole};
 ghost use Rattle.client.specs.Spent.{IsErasedInCell, IsUsed};
 ghost use Rattle.client.specs.declared.begin.Begin.{Begin};
+ghost use Rattle.book.specs.Books.{MayBookAct};
+ghost use Rattle.book.specs.FanStepping.{FansAsStep};
+ghost use Rattle.book.specs.Fanning.{FansIn};
+ghost use Rattle.book.specs.Fans.{AreListed};
+ghost use Rattle.book.specs.declared.refusals.FanRefusal.{FanRefusal};
 ghost use Rattle.book.specs.Machines.{AreSteps, HaveInCommon, RowAnswer, RowCall, sessions_of};
 ghost use Rattle.book.specs.RowCells.{row_cell};
 ghost use Rattle.book.specs.Witness.{anna, bobs_book, bobs_events, carls_book, carls_events, said_to_anna};
 
 use crate::book::Book;
+use crate::fans::FanOut;
 use dr_disk::Disk;
 use dr_model::erasure;
+use dr_ports::Draws;
 use kem_laws::Kem;
 
 /// A book that isn't closed, and meets no fault of its store, no want of memory and no full book,
@@ -51,6 +58,27 @@ pub fn independence<K: Kem>(first: &Book<K>, rest: &[Book<K>], second: &Book<K>,
         → HaveInCommon name first.now second.now here there
         → replies_of name here ≡ replies_of name there }
 {}
+
+/// What `Book::fan` does is an event of the machine of named rows: an Ok fan is a say for each of
+/// its names, with what was drawn for it, and a refused one is no call.
+pub fn fans_are_steps<K: Kem, D: Disk, W: Draws>(
+    list: &FanOut,
+    old: &Book<K>,
+    new: &Book<K>,
+    start: &D,
+    now: &D,
+    source: &W,
+    left: &W,
+)
+    requires may { MayBookAct old.now (D.state start.now) }
+    requires listed { AreListed old.now.rows list.now }
+    ensures { (text : List ℕ) (result : Result Unit FanRefusal)
+        → FansIn D.state W.at K.mechanism text list.now old.now new.now start.now now.now
+        source.now left.now result
+        → FansAsStep W.at K.mechanism text list.now old.now new.now source.now left.now result }
+{
+    list.is_fair();
+}
 
 /// There are two such lists, which differ in all that is asked under other names, and the name is
 /// answered to.

@@ -9,11 +9,13 @@
 
 pub use book::Book;
 pub use book_store::BookOpenError;
-pub use refusals::{BookBeginError, BookRefusal, ForgetError, NoName};
+pub use fans::{FAN_LIMIT, FanAddError, FanOut};
+pub use refusals::{BookBeginError, BookRefusal, FanRefusal, ForgetError, NoName};
 
 mod beginning;
 mod book;
 mod dropping;
+mod fans;
 mod keeping;
 pub mod laws;
 mod opening;
@@ -22,6 +24,7 @@ mod refusals;
 mod renewing;
 mod row;
 mod saying;
+mod seat;
 mod shelf;
 mod storing;
 mod taking;

@@ -1,14 +1,18 @@
 //! A book is opened from its disk.
 
-ghost use Rattle.std.specs.Prelude.{◌≡◌, ◌≢◌, ◌≤◌, IfErr, IfOk, OnOk};
+ghost use Rattle.std.specs.Prelude.{◌+◌, ◌≡◌, ◌≢◌, ◌≤◌, List, Some, ℕ, IfErr, IfOk, OnOk};
+ghost use Rattle.book_store.specs.Counts.{faulted, opening_reads, openings};
 ghost use Rattle.book_store.specs.Layout.{HasBook};
 ghost use Rattle.book_store.specs.Opened.{IsBookLeft, IsBookReadAtRest, IsBookRefused, IsLookedAt};
+ghost use Rattle.book_store.specs.Shown.{stored_rows};
 ghost use Rattle.book_store.specs.declared.layout.TheConstants.{BOOK_ROWS};
 ghost use Rattle.dr_disk.specs.Spans.{IsQuiet, Span};
 ghost use Rattle.dr_disk.specs.State.{Fate, OnSeen};
 ghost use Rattle.dr_disk.specs.declared.call.Call.{Call};
+ghost use Rattle.pages.specs.Counted.{MakesAtMost, ReadsAtMost};
 ghost use Rattle.client.specs.Opening.{client_record_fault};
-ghost use Rattle.book.specs.Opening.{IsAsReadBook, IsEntryOrAsReadBook, IsOpenedBook};
+ghost use Rattle.book.specs.Renewing.{renewings};
+ghost use Rattle.book.specs.Opening.{AreNewest, IsAsReadBook, IsBookReadNewest, IsEntryOrAsReadBook, IsOpenedBook};
 
 use crate::book::Book;
 use crate::reading::{RowReader, fill_rows};
@@ -35,6 +39,20 @@ impl<K: Kem> Book<K> {
         // tidied, and for the records in the newest version, which come all at once.
         ensures any_moment { Span (D.state disk.old) (D.state disk.new)
             (IsEntryOrAsReadBook K.mechanism rows (D.state disk.old)) }
+        ensures reads { OnSeen (IsAsReadBook K.mechanism rows (D.state disk.old))
+            (D.state disk.new) }
+        // A book that was read at rest, with all records in the newest version, is left as it is,
+        // after one sync. However it ends writes and syncs are bounded, the one that failed among
+        // them; and where no record is in an earlier version so are reads, and fewer are made.
+        ensures still { IsBookReadAtRest rows (D.state disk.old)
+            → IsBookReadNewest rows (D.state disk.old)
+            → IsBookLeft (D.state disk.old) (D.state disk.new) result }
+        ensures few { MakesAtMost (openings rows + renewings rows) faulted
+            (D.state disk.old) (D.state disk.new) result }
+        ensures looked { (s : List ℕ) → (D.state disk.old).seen ≡ Some s
+            → AreNewest (stored_rows rows s)
+            → ReadsAtMost (opening_reads rows) (D.state disk.old) (D.state disk.new)
+            × MakesAtMost (openings rows) faulted (D.state disk.old) (D.state disk.new) result }
         // Each refusal has its cause.
         ensures refused { IfErr result (IsBookRefused (client_record_fault K.mechanism) rows
             (D.state disk.old) (D.state disk.new)) }

@@ -10,6 +10,7 @@ ghost use Rattle.client.specs.Reading.{HasReadClient, HasReadNothing};
 ghost use Rattle.book.specs.Opening.{AreRowsRead, IsRowRead};
 
 use crate::row::Row;
+use crate::seat::Seat;
 use book_store::{BookStore, Grammar, RowGrammar};
 use client::RecordReader;
 use kem_laws::Kem;
@@ -17,19 +18,20 @@ use relay_wire::Name;
 use std::alloc::{AllocError, Global};
 use std::mem::replace;
 
-/// Reads the record of one row.
+/// Reads the record of one row. It is on the heap, and has the room of the session that is read.
 #[derive(Drop)]
 pub(crate) struct RowReader<K: Kem> {
-    reader: RecordReader<K>,
+    reader: Box<RecordReader<K>>,
+    seat: Seat<K>,
 }
 
 impl<K: Kem> Grammar for RowReader<K> {
     ghost fault_at = { λ text. client_record_fault K.mechanism text };
 
-    ghost is_new = { λ r. HasReadNothing r.reader.session r.reader.room.inbox r.reader.room.outbox };
+    ghost is_new = { λ r. HasReadNothing r.reader.value.session r.reader.value.room.inbox r.reader.value.room.outbox };
 
     ghost has_read = { λ r text. HasReadClient K.mechanism
-        r.reader.session r.reader.room.inbox r.reader.room.outbox text };
+        r.reader.value.session r.reader.value.room.inbox r.reader.value.room.outbox r.reader.value.keys text };
 
     fn read(&mut self, text: &[u8]) -> Result<(), u32> {
         self.reader.read(text)
@@ -38,8 +40,10 @@ impl<K: Kem> Grammar for RowReader<K> {
 
 impl<K: Kem> RowGrammar for RowReader<K> {
     fn fresh(alloc: Global) -> Result<RowReader<K>, AllocError> {
+        let reader = RecordReader::new(alloc)?;
         Ok(RowReader {
-            reader: RecordReader::new(alloc)?,
+            reader: Box::new(alloc, reader)?,
+            seat: Seat::take(alloc)?,
         })
     }
 }
@@ -47,17 +51,18 @@ impl<K: Kem> RowGrammar for RowReader<K> {
 /// The session that was read of a row, under the row's name.
 fn row_read<K: Kem>(store: &BookStore, at: usize, reader: RowReader<K>) -> Option<Row<K>>
     requires read { (row : BookRow) → get_or store.now.held at None ≡ Some row
-        → HasReadClient K.mechanism reader.reader.session reader.reader.room.inbox
-        reader.reader.room.outbox row.text }
+        → HasReadClient K.mechanism reader.reader.value.session reader.reader.value.room.inbox
+        reader.reader.value.room.outbox reader.reader.value.keys row.text }
     requires some { (row : BookRow) × (get_or store.now.held at None ≡ Some row)
         × (is_name row.name ≡ true) }
     ensures { IsRowRead K.mechanism (get_or store.now.held at None) result }
 {
+    let RowReader { reader, seat } = reader;
     match store.name(at) {
         Some(name) => match Name::new(name.as_bytes()) {
             Some(name) => Some(Row {
                 name,
-                core: reader.reader.into_core(),
+                core: seat.fill(Box::into_inner(reader).into_core()),
             }),
             None => unreachable!(),
         },
@@ -75,8 +80,8 @@ pub(crate) fn fill_rows<K: Kem>(
     requires none { rows.old.items ≡ [] }
     requires room { count ≤ vec_capacity rows.old }
     requires most { count ≤ BOOK_ROWS }
-    requires read { HaveReadRows (λ r text. HasReadClient K.mechanism r.reader.session
-        r.reader.room.inbox r.reader.room.outbox text) readers.items store.now.held }
+    requires read { HaveReadRows (λ r text. HasReadClient K.mechanism r.reader.value.session
+        r.reader.value.room.inbox r.reader.value.room.outbox r.reader.value.keys text) readers.items store.now.held }
     requires names { (r : ℕ) (row : BookRow) → get_or store.now.held r None ≡ Some row
         → is_name row.name ≡ true }
     ensures long { length rows.new.items ≡ count }

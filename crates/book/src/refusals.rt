@@ -1,5 +1,6 @@
 //! Why a book refuses.
 
+use client::SayRefusal;
 use dr_disk::Call;
 use thiserror::Error;
 
@@ -57,5 +58,19 @@ pub enum ForgetError {
     NoName,
     /// A call on the disk failed, of this kind: the book is closed.
     #[error("a call on the disk failed: {call:?}")]
+    StoreFault { call: Call },
+}
+
+/// Why a fan isn't done.
+#[derive(Drop)]
+pub enum FanRefusal {
+    /// A call on the disk failed before, of this kind: the book has to be opened again.
+    Closed { call: Call },
+    /// It has no session.
+    Nobody,
+    /// The session at this place in it, from 0, refuses the text: it says so, or no seed could be
+    /// drawn for it, or the seed has no pair.
+    Peer { at: usize, refusal: SayRefusal },
+    /// A call on the disk failed, of this kind: the book is closed.
     StoreFault { call: Call },
 }

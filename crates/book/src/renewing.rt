@@ -1,21 +1,23 @@
 //! Records in an earlier version are replaced by the same in the newest one, all in one commit.
 
-ghost use Rattle.std.specs.Prelude.{◌≡◌, ◌<◌, ◌≤◌, ℕ, IfOk, List, None, OnOk, Option, Some, get_or, length, true};
+ghost use Rattle.std.specs.Prelude.{◌*◌, ◌≡◌, ◌<◌, ◌≤◌, ℕ, IfOk, IsOk, List, None, OnOk, Option, Some, get_or, length, true};
 ghost use Rattle.book_store.specs.Committing.{IsOldOrNewBook, KeepsRows, ReadsOutsideBook, call_of};
 ghost use Rattle.book_store.specs.Kept.{row_bounds};
 ghost use Rattle.book_store.specs.Shown.{BookRow};
 ghost use Rattle.book_store.specs.Staging.{IsStagedOver, MayStage};
 ghost use Rattle.book_store.specs.Store.{IsNewName, IsUnstaged};
+ghost use Rattle.book_store.specs.declared.layout.TheConstants.{ROW_MOST};
 ghost use Rattle.dr_base.specs.Bytes.{AreBytes};
 ghost use Rattle.dr_disk.specs.Called.{Went};
 ghost use Rattle.dr_disk.specs.Spans.{Span};
+ghost use Rattle.pages.specs.Counted.{MakesAtMost};
 ghost use Rattle.session_record.specs.Versions.{is_newest};
 ghost use Rattle.paged_records.specs.Bounded.{HasRecordMemory};
 ghost use Rattle.session_model.specs.Clients.{Client};
 ghost use Rattle.book_model.specs.Rows.{Row as Named};
 ghost use Rattle.book.specs.Books.{IsBookReady, IsStoreReady};
 ghost use Rattle.book.specs.Opening.{AreNewest, AreRowsRead, IsRowRead};
-ghost use Rattle.book.specs.Renewing.{Renews, RenewsRow};
+ghost use Rattle.book.specs.Renewing.{HasFewDrops, Renews, RenewsRow, missed_by, renewings};
 ghost use Rattle.book.specs.Rows.{stored};
 
 use crate::beginning::write_now;
@@ -74,6 +76,8 @@ fn renew_row<K: Kem, D: Disk>(
         (D.state disk.new) (KeepsRows store.old.rows standing (D.state disk.old)) }
     ensures reads { ReadsOutsideBook store.old.rows (D.state disk.old) (D.state disk.new) }
     ensures went { Went call_of (D.state disk.old) (D.state disk.new) result }
+    ensures few { MakesAtMost ROW_MOST missed_by (D.state disk.old) (D.state disk.new) result }
+    ensures drops { HasFewDrops store.old → HasFewDrops store.new }
     ensures room { HasRecordMemory row_bounds text.new }
 {
     record_law();
@@ -85,7 +89,7 @@ fn renew_row<K: Kem, D: Disk>(
             if is_newest(content) {
                 return Ok(false);
             }
-            let len = write_now(&row.core, text);
+            let len = write_now(row.core.core(), text);
             match store.stage(disk, at, row.name.copied(), text, len) {
                 Ok(()) => Ok(true),
                 Err(fault) => Err(fault),
@@ -112,6 +116,9 @@ fn renew_rows<K: Kem, D: Disk>(
         (KeepsRows store.old.rows store.old.held (D.state disk.old)) }
     ensures reads { ReadsOutsideBook store.old.rows (D.state disk.old) (D.state disk.new) }
     ensures went { Went call_of (D.state disk.old) (D.state disk.new) result }
+    ensures few { MakesAtMost (ROW_MOST * length rows.now) missed_by
+        (D.state disk.old) (D.state disk.new) result }
+    ensures drops { OnOk result (HasFewDrops store.new) }
     ensures room { HasRecordMemory row_bounds text.new }
 {
     resting_books();
@@ -138,10 +145,12 @@ impl<K: Kem> Shelf<K> {
         ensures any_moment { Span (D.state disk.old) (D.state disk.new)
             (IsOldOrNewBook self.old.book.store.rows self.old.book.store.held
             (stored self.old.book.rows) (D.state disk.old)) }
-        ensures still { AreNewest self.old.book.store.held → disk.new ≡ disk.old }
+        ensures still { AreNewest self.old.book.store.held → IsOk result × (disk.new ≡ disk.old) }
         ensures reads { ReadsOutsideBook self.old.book.store.rows (D.state disk.old)
             (D.state disk.new) }
         ensures went { Went call_of (D.state disk.old) (D.state disk.new) result }
+        ensures few { MakesAtMost (renewings (length self.old.book.rows)) missed_by
+            (D.state disk.old) (D.state disk.new) result }
     {
         record_law();
         if are_newest(&self.store, self.rows.len()) {

@@ -4,10 +4,12 @@ ghost use Rattle.std.specs.Prelude.{◌≡◌, ◌<◌, ℕ, IfSome, MatchOption
 ghost use Rattle.book_model.specs.Rows.{Rows, under};
 ghost use Rattle.ratchet.specs.Seen.{seed_bytes};
 ghost use Rattle.session_model.specs.Clients.{Client, accept_send, say_check, say_on};
+ghost use Rattle.session_model.specs.Contents.{content_with};
 ghost use Rattle.client.specs.Drafting.{DraftsFor, IsReceivedOf, IsSaidOf, said_if};
 ghost use Rattle.book.specs.Naming.{HasNone, IsFree, IsPlaceOf, is_named};
 ghost use Rattle.book.specs.RowKeepings.{kept_of, name_of};
 
+use crate::seat::Seated;
 use book_store::words;
 use client::Core;
 use dr_base::Key32;
@@ -21,7 +23,7 @@ use std::marker::Model;
 #[derive(Drop)]
 pub(crate) struct Row<K: Kem> {
     pub(crate) name: Name,
-    pub(crate) core: Core<K>,
+    pub(crate) core: Seated<K>,
 }
 
 impl<K: Kem> Model for Row<K> {
@@ -39,7 +41,7 @@ pub(crate) fn core_of<K: Kem>(row: &Option<Row<K>>) -> &Core<K>
     ensures { result.now ≡ kept_of row.now }
 {
     match row {
-        Some(row) => &row.core,
+        Some(row) => row.core.core(),
         None => unreachable!(),
     }
 }
@@ -91,25 +93,28 @@ pub(crate) fn find_free<K: Kem>(rows: &[Option<Row<K>>]) -> Option<usize>
     None
 }
 
-/// Drafts a text of a row's session, as `Core::draft_say` does.
+/// Drafts bytes of a kind, of a row's session, as `Core::draft_say` does.
 // Inlined, so that the draft is built where the caller keeps it.
 #[inline(always)]
 pub(crate) fn draft_say_in<'a, K: Kem>(
     row: &mut Option<Row<K>>,
+    kind: u8,
     text: &[u8],
     seed: Option<Key32>,
     room: &'a mut PacketRoom,
 ) -> Result<SendDraft<'a, K>, NoPairFor>
     requires there { is_some row.old ≡ true }
-    requires checked { say_check (kept_of row.old) (length text.now) ≡ Ok (is_some seed) }
-    ensures exact { say_on K.mechanism (kept_of row.old) text.now (seed_bytes seed)
+    requires checked { say_check (kept_of row.old) (content_with kind text.now)
+        ≡ Ok (is_some seed) }
+    ensures exact { say_on K.mechanism (kept_of row.old) (content_with kind text.now)
+        (seed_bytes seed)
         ≡ accept_send (kept_of row.old) (said_if (kept_of row.old).state result) }
     ensures draft { IfOk result (IsSaidOf K.mechanism (kept_of row.old)) }
     ensures seed { IfErr result (λ e. seed ≡ Some e.seed) }
     ensures same { row.new ≡ row.old }
 {
     match row {
-        Some(row) => row.core.draft_say(text, seed, room),
+        Some(row) => row.core.draft_say(kind, text, seed, room),
         None => unreachable!(),
     }
 }

@@ -8,6 +8,7 @@ ghost use Rattle.book.specs.Stepping.{SaysAsStep};
 use crate::book::Book;
 use crate::refusals::BookRefusal;
 use crate::shelf::Shelf;
+use boxes::TEXT_KIND;
 use client::{Keeper, SayRefusal, say};
 use dr_base::Position;
 use dr_disk::Disk;
@@ -43,7 +44,7 @@ impl<K: Kem> Book<K> {
             return Err(BookRefusal::NoName);
         };
         self.shelf.use_row(at);
-        match say::<K, Shelf<K>, D, W>(&mut self.shelf, disk, text, draws) {
+        match say::<K, Shelf<K>, D, W>(&mut self.shelf, disk, TEXT_KIND, text, draws) {
             Ok(position) => return Ok(position),
             Err(refusal) => return Err(BookRefusal::Of(refusal)),
         }

@@ -141,12 +141,13 @@ impl<K: Kem> Keeper<K> for Shelf<K> {
     #[inline(always)]
     fn draft_say<'a>(
         &mut self,
+        kind: u8,
         text: &[u8],
         seed: Option<Key32>,
         room: &'a mut PacketRoom,
     ) -> Result<SendDraft<'a, K>, NoPairFor> {
         let row = &mut self.rows[self.at];
-        draft_say_in(row, text, seed, room)
+        draft_say_in(row, kind, text, seed, room)
     }
 
     #[inline(always)]

@@ -1,8 +1,9 @@
 -- The status and the last line of each ending.
 use Rattle.std.specs.Prelude.{ℕ, List, [], ◌++◌, codes, decimal}
 use Rattle.answer_lines.specs.Answers.{refusal_text}
+use Rattle.answer_lines.specs.Longs.{long_refusal_text}
 use Rattle.endings.specs.declared.ending.Ending.{Ending}
-use Rattle.endings.specs.declared.ending.Ending.TheVariants.{Done, Usage, InputTooLong, BadKey, NotHex, BadBox, BoxName, BoxKeys, BadName, NameTaken, NoName, BookFull, BadLine, Refused, BoxFull, NoBox, ReadFault, DiskFault, LinkFault, DrawFault, NoSession, Exists, Damaged, DamagedArea, DamagedBookTable, DamagedBookRow, Peer, NoMemory}
+use Rattle.endings.specs.declared.ending.Ending.TheVariants.{Done, Usage, InputTooLong, BadKey, NotHex, BadBox, BoxName, BoxKeys, BadName, NameTaken, NoName, BookFull, BadLine, NoRelayKeys, Refused, Unjoined, NoSuchPart, BoxFull, NoBox, Denied, ReadFault, DiskFault, LinkFault, DrawFault, NoSession, Exists, Damaged, DamagedArea, DamagedBookTable, DamagedBookRow, Peer, NoMemory}
 use Rattle.relay_pipe.specs.declared.faults.PeerKind.{PeerKind}
 use Rattle.relay_pipe.specs.declared.faults.PeerKind.TheVariants.{Frame, Kind, Size, Wrong, Ended}
 
@@ -21,9 +22,13 @@ code_of NameTaken = 3
 code_of NoName = 3
 code_of (BookFull rows) = 3
 code_of (BadLine number) = 3
+code_of NoRelayKeys = 3
 code_of (Refused refusal) = 3
+code_of (Unjoined refusal) = 3
+code_of (NoSuchPart count) = 3
 code_of BoxFull = 3
 code_of NoBox = 3
+code_of (Denied rule) = 3
 code_of ReadFault = 4
 code_of DiskFault = 6
 code_of LinkFault = 7
@@ -60,9 +65,13 @@ ending_text NameTaken = codes "refused: NameTaken"
 ending_text NoName = codes "refused: NoName"
 ending_text (BookFull rows) = codes "refused: BookFull " ++ decimal rows
 ending_text (BadLine number) = codes "refused: Script " ++ decimal number
+ending_text NoRelayKeys = codes "refused: NoRelayKeys"
 ending_text (Refused refusal) = codes "refused: " ++ refusal_text refusal
+ending_text (Unjoined refusal) = codes "refused: " ++ long_refusal_text refusal
+ending_text (NoSuchPart count) = codes "refused: NoSuchPart " ++ decimal count
 ending_text BoxFull = codes "refused: BoxFull"
 ending_text NoBox = codes "refused: Unknown"
+ending_text (Denied rule) = codes "refused: Denied " ++ decimal rule
 ending_text ReadFault = codes "fault: read"
 ending_text DiskFault = codes "fault: disk"
 ending_text LinkFault = codes "fault: link"

@@ -3,6 +3,7 @@
 ghost use Rattle.std.specs.Prelude.{◌≡◌};
 ghost use Rattle.endings.specs.Ending.{code_of};
 
+use long_text::LongRefusal;
 use relay_pipe::PeerKind;
 use session_model::Refusal;
 
@@ -35,12 +36,20 @@ pub enum Ending {
     BookFull(u32),
     /// The script's first bad line, from 1.
     BadLine(u32),
+    /// The session has no keys of its boxes at a relay.
+    NoRelayKeys,
     /// A side refuses.
     Refused(Refusal),
+    /// The inbox has no long text of the id.
+    Unjoined(LongRefusal),
+    /// The text has no part of the number: it has this many, from 1.
+    NoSuchPart(u32),
     /// The peer's box at the relay is full.
     BoxFull,
     /// The relay has no such box.
     NoBox,
+    /// A box at the relay doesn't serve the request, by this rule.
+    Denied(u32),
     /// A read of the source failed.
     ReadFault,
     /// A call on a disk failed.
@@ -86,9 +95,13 @@ impl Ending {
             Ending::NoName => 3,
             Ending::BookFull(_) => 3,
             Ending::BadLine(_) => 3,
+            Ending::NoRelayKeys => 3,
             Ending::Refused(_) => 3,
+            Ending::Unjoined(_) => 3,
+            Ending::NoSuchPart(_) => 3,
             Ending::BoxFull => 3,
             Ending::NoBox => 3,
+            Ending::Denied(_) => 3,
             Ending::ReadFault => 4,
             Ending::DiskFault => 6,
             Ending::LinkFault => 7,

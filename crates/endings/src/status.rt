@@ -2,12 +2,14 @@
 
 ghost use Rattle.std.specs.Prelude.{◌≡◌, ◌+◌, ◌≤◌, ◌++◌, [], length, codes, decimal};
 ghost use Rattle.answer_lines.specs.Answers.{refusal_text};
+ghost use Rattle.answer_lines.specs.Longs.{long_refusal_text};
 ghost use Rattle.endings.specs.Ending.{ending_text, last_line, peer_kind_text};
 ghost use Rattle.endings.specs.Ends.{Ends};
 
 use crate::ending::Ending;
-use answer_lines::{put_named, put_refusal};
+use answer_lines::{put_long_refusal, put_named, put_refusal};
 use dr_ports::{Failed, OutputLine, ROOM, Sink, write_all};
+use long_text::LongRefusal;
 use relay_pipe::PeerKind;
 use session_model::Refusal;
 
@@ -43,6 +45,16 @@ fn put_refused(line: &mut OutputLine, refusal: Refusal)
 {
     line.text(b"refused: ");
     put_refusal(line, refusal);
+}
+
+/// Puts why there is no long text after what stands.
+fn put_unjoined(line: &mut OutputLine, refusal: LongRefusal)
+    requires { length line.old + 98 ≤ ROOM }
+    ensures bytes { line.new ≡ line.old ++ codes "refused: " ++ long_refusal_text refusal }
+    ensures len { length line.new ≤ length line.old + 98 }
+{
+    line.text(b"refused: ");
+    put_long_refusal(line, refusal);
 }
 
 /// Puts which one is damaged, and where, after what stands.
@@ -89,9 +101,13 @@ fn put_ending(line: &mut OutputLine, ending: Ending)
         Ending::NoName => line.text(b"refused: NoName"),
         Ending::BookFull(rows) => put_named(line, b"refused: BookFull ", u64::from(rows)),
         Ending::BadLine(number) => put_named(line, b"refused: Script ", u64::from(number)),
+        Ending::NoRelayKeys => line.text(b"refused: NoRelayKeys"),
         Ending::Refused(refusal) => put_refused(line, refusal),
+        Ending::Unjoined(refusal) => put_unjoined(line, refusal),
+        Ending::NoSuchPart(count) => put_named(line, b"refused: NoSuchPart ", u64::from(count)),
         Ending::BoxFull => line.text(b"refused: BoxFull"),
         Ending::NoBox => line.text(b"refused: Unknown"),
+        Ending::Denied(rule) => put_named(line, b"refused: Denied ", u64::from(rule)),
         Ending::ReadFault => line.text(b"fault: read"),
         Ending::DiskFault => line.text(b"fault: disk"),
         Ending::LinkFault => line.text(b"fault: link"),

@@ -12,13 +12,14 @@ use Rattle.book.proofs.reading.fill_rows.Goals as goal
 
 pub row_read-row-requires-clause-read : goal.row_read-row-requires-clause-read
 row_read-row-requires-clause-read g c = λ row is.
-    let reader = c.in-Some.reader.reader in
+    let reader = c.in-Some.reader.reader.value in
     let from = read_here _ c.args.readers.items c.rows.readers.items c.args.store.now.held c.rows.at c.index_mut.result.now
     c.requires.read c.rows.invariant.readers (omega (arith, c.rows-test.true, c.requires.most))
     (c.rows.invariant.left c.rows.at (omega arith)) c.index_mut.ensures.value c.in-Some.reader
     (sym c.replace.ensures.value ∙ c.in-Some.is) in
     let same : from.0 ≡ row = let e : Some from.0 ≡ Some row = sym from.1 ∙ is in cc in
-    subst (λ (r : BookRow). HasReadClient g.K.Kem.mechanism reader.session reader.room.inbox reader.room.outbox r.text) same from.2
+    subst (λ (r : BookRow). HasReadClient g.K.Kem.mechanism reader.session reader.room.inbox reader.room.outbox reader.keys
+    r.text) same from.2
 
 pub row_read-row-requires-clause-some : goal.row_read-row-requires-clause-some
 row_read-row-requires-clause-some g c =

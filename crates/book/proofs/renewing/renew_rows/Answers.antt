@@ -1,4 +1,4 @@
-use Rattle.std.proofs.Common.{Bool, None, Option, Some, arith, get_or, refl, subst, sym, ◌∙◌}
+use Rattle.std.proofs.Common.{Bool, Err, None, Ok, Option, Some, arith, get_or, length, refl, subst, sym, ◌*◌, ◌+◌, ◌∙◌}
 use Rattle.std.proofs.lemmas.List.{get_or_default}
 use Rattle.dr_disk.specs.Spans.{Span}
 use Rattle.dr_disk.proofs.Calling.{then_failed}
@@ -10,6 +10,9 @@ use Rattle.book_store.specs.Shown.{BookRow}
 use Rattle.book_store.proofs.Composed.{stay}
 use Rattle.session_model.specs.Clients.{Client}
 use Rattle.book.specs.Opening.{IsRowRead}
+use Rattle.book.specs.Renewing.{missed_by}
+use Rattle.book_store.specs.declared.layout.TheConstants.{ROW_MOST}
+use Rattle.book.proofs.Few.{few_then, no_drops}
 use Rattle.book.proofs.Imaged.{has_rows}
 use Rattle.book.proofs.Renewed.{held_long, name_now, none_yet, renewed_next}
 use Rattle.book.proofs.Staged.{unstaged}
@@ -22,6 +25,8 @@ rows-init g c =
     record {
       so = none_yet c.args.rows.now first start c.may_stage.ensures.over
           (has_rows c.resting_books.ensures first start c.requires.ready);
+      few = record { told = λ m is. (m, is, omega arith) };
+      drops = no_drops first c.requires.ready.dropped;
       room = c.requires.room;
     }
 
@@ -74,6 +79,22 @@ returns-in-Err-clause-went g c =
     then_failed {T = Unit} {U = Unit} {V = Bool} call_of call_of call_of tt c.in-Err.fault c.in-Err.fault start mid end
     (KeepsRows first.rows first.held start) refl so.any_moment so.went c.in-Err.ensures.went
 
+pub returns-in-Err-clause-few : goal.returns-in-Err-clause-few
+returns-in-Err-clause-few g c =
+    let start = g.D.Disk.state c.args.disk.now in
+    let mid = g.D.Disk.state c.rows.disk in
+    let end = g.D.Disk.state c.renew_row.new.disk in
+    few_then {T = Unit} {U = Bool} {V = Unit} (ROW_MOST * c.rows.at) ROW_MOST (ROW_MOST * length c.args.rows.now)
+    missed_by missed_by missed_by tt start mid end (Err c.in-Err.fault) (Err c.in-Err.fault) refl
+    (omega (arith, c.rows-test.true)) c.rows.invariant.few c.in-Err.ensures.few
+
+pub returns-clause-few : goal.returns-clause-few
+returns-clause-few g c = record {
+  told = λ m is.
+      let was = c.rows.invariant.few.told m is in
+      (was.0, was.1, omega (arith, was.2, c.rows-test.false, c.rows.auto.at-end));
+}
+
 pub rows-preserved : goal.rows-preserved
 rows-preserved g c =
     let k = g.K.Kem.mechanism in
@@ -86,5 +107,9 @@ rows-preserved g c =
           (get_or_default rows c.rows.at None c.index-rows-at.result c.rows-test.true ∙ sym c.index-rows-at.is)
           (omega (arith, c.rows-test.true, c.requires.long, c.requires.ready.few, held_long k rows first start c.requires.ready))
           c.in-Ok.ensures.renews;
+      few = few_then {T = Unit} {U = Bool} {V = Unit} (ROW_MOST * c.rows.at) ROW_MOST (ROW_MOST * (c.rows.at + 1)) missed_by missed_by
+          missed_by tt start (g.D.Disk.state c.rows.disk) (g.D.Disk.state c.renew_row.new.disk) (Ok c.in-Ok.field-0) (Ok tt) refl
+          (omega arith) c.rows.invariant.few c.in-Ok.ensures.few;
+      drops = c.renew_row.ensures.drops c.rows.invariant.drops;
       room = c.renew_row.ensures.room;
     }

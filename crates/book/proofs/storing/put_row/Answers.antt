@@ -31,7 +31,8 @@ settle-requires-clause-may g c =
     let old = c.args.store.now in
     let stages = c.in-Ok.ensures.stages old.held c.may_stage.ensures.over in
     record {
-      within = subst (λ (s : BookStore). HasBook s.rows mid) (sym c.stage.ensures.next) (omega (arith, c.requires.ready.within, stages.any_moment.size));
+      within = subst (λ (s : BookStore). HasBook s.rows mid) (sym c.stage.ensures.next)
+          (omega (arith, c.requires.ready.within, stages.any_moment.size));
       standing = old.held;
       over = stages.staged;
     }
@@ -63,7 +64,8 @@ returns-in-Err-settle-clause-takes g c =
     c.stage.ensures.next (c.in-Ok.ensures.stages old.held c.may_stage.ensures.over) in
     then_settled (writes_at old c.args.row text) (with_row old c.args.row c.args.name text) old.held start mid
     stages.any_moment stages.still end c.in-Ok.ensures.calls c.stage.ensures.reads c.settle.new.store (Err c.in-Err-settle.fault)
-    (subst (λ (s : BookStore). TakesPlaceOf {T = Unit} 0 s c.settle.new.store old.held mid end (Err c.in-Err-settle.fault)) c.stage.ensures.next
+    (subst (λ (s : BookStore). TakesPlaceOf {T = Unit} 0 s c.settle.new.store old.held mid end (Err c.in-Err-settle.fault))
+    c.stage.ensures.next
     (c.in-Err-settle.ensures old.held over))
 
 pub stage-requires-clause-once : goal.stage-requires-clause-once

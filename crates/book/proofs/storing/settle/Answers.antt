@@ -36,15 +36,18 @@ returns-in-Err-retire g c = λ standing over.
     let mid = g.D.Disk.state c.commit.new.disk in
     let end = g.D.Disk.state c.retire.new.disk in
     let next = c.commit.ensures.next in
-    let commits = subst (λ (s : BookStore). CommitsRows {T = Unit} {E = StoreFault} s standing start mid (Ok tt)) next (c.in-Ok.ensures.commits standing over) in
+    let commits = subst (λ (s : BookStore). CommitsRows {T = Unit} {E = StoreFault} s standing start mid (Ok tt)) next
+    (c.in-Ok.ensures.commits standing over) in
     retire_failed c.args.store.now standing start mid (λ d left. (commits.done d left).1) commits.any_moment end
     (subst (λ (s : BookStore). Span mid end (KeepsRows s.rows s.held mid)) next c.retire.ensures.any_moment)
     c.in-Err-retire.fault c.retire.new.self (g.met.D.Disk.lawful c.retire.new.disk)
     (ap (λ (s : BookStore). s.rows) c.retire.ensures.next ∙ ap (λ (s : BookStore). s.rows) next)
     c.in-Ok.ensures.calls c.commit.ensures.reads
-    (subst (λ (s : BookStore). Called {T = Unit} (retire_calls s) call_of mid end (Err c.in-Err-retire.fault)) next c.in-Err-retire.ensures.calls)
+    (subst (λ (s : BookStore). Called {T = Unit} (retire_calls s) call_of mid end (Err c.in-Err-retire.fault)) next
+    c.in-Err-retire.ensures.calls)
     (subst (λ (s : BookStore). ReadsOutsideBook s.rows mid end) next c.retire.ensures.reads)
-    (subst (λ (s : BookStore). CameNext (retire_call (length (all_drops s))) mid end c.in-Err-retire.fault.call) next c.in-Err-retire.ensures.kind)
+    (subst (λ (s : BookStore). CameNext (retire_call (length (all_drops s))) mid end c.in-Err-retire.fault.call) next
+    c.in-Err-retire.ensures.kind)
 
 pub returns : goal.returns
 returns g c = λ standing over.
@@ -52,7 +55,8 @@ returns g c = λ standing over.
     let mid = g.D.Disk.state c.commit.new.disk in
     let end = g.D.Disk.state c.retire.new.disk in
     let next = c.commit.ensures.next in
-    let commits = subst (λ (s : BookStore). CommitsRows {T = Unit} {E = StoreFault} s standing start mid (Ok tt)) next (c.in-Ok.ensures.commits standing over) in
+    let commits = subst (λ (s : BookStore). CommitsRows {T = Unit} {E = StoreFault} s standing start mid (Ok tt)) next
+    (c.in-Ok.ensures.commits standing over) in
     settled c.args.store.now standing start mid (λ d left. (commits.done d left).1) commits.any_moment end
     (subst (λ (s : BookStore). Span mid end (KeepsRows s.rows s.held mid)) next c.retire.ensures.any_moment)
     c.retire.new.self (c.retire.ensures.next ∙ ap retired next) c.requires.few c.requires.may.within

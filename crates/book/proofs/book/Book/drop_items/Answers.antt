@@ -28,7 +28,12 @@ returns-in-Ok-clause-answers g c =
             c.args.disk.now c.drop_items.new.disk (Ok tt)) old at was is same
             (stays_at g.D.Disk.state (act_on g.K.Kem.mechanism (row_keeping.kept was) (dropping c.args.which)) was is c.args.disk.now
             c.drop_items.new.disk (dropped_as (Dropped c.args.which) (Ok tt)) c.in-Ok.ensures.exact)
-            (record { exact = c.in-Ok.ensures.exact; ready = c.in-Ok.ensures.ready; in_worlds = c.in-Ok.ensures.in_worlds; fate = c.in-Ok.ensures.fate }),
+            (record {
+              exact = c.in-Ok.ensures.exact;
+              ready = c.in-Ok.ensures.ready;
+              in_worlds = c.in-Ok.ensures.in_worlds;
+              fate = c.in-Ok.ensures.fate;
+            }),
       ),
     )
 
@@ -67,7 +72,12 @@ returns-in-Err-clause-answers g c =
             c.args.disk.now c.drop_items.new.disk (Err c.in-Err.refusal)) old at was is same
             (stays_at g.D.Disk.state (act_on g.K.Kem.mechanism (row_keeping.kept was) (dropping c.args.which)) was is c.args.disk.now
             c.drop_items.new.disk (dropped_as (Dropped c.args.which) (Err c.in-Err.refusal)) c.in-Err.ensures.exact)
-            (record { exact = c.in-Err.ensures.exact; ready = c.in-Err.ensures.ready; in_worlds = c.in-Err.ensures.in_worlds; fate = c.in-Err.ensures.fate }),
+            (record {
+              exact = c.in-Err.ensures.exact;
+              ready = c.in-Err.ensures.ready;
+              in_worlds = c.in-Err.ensures.in_worlds;
+              fate = c.in-Err.ensures.fate;
+            }),
       ),
     )
 

@@ -26,9 +26,17 @@ returns-in-Ok-clause-forgets g c =
     let place = subst (λ (b : BookNow). IsPlaceOf c.args.name.now b.rows at) c.self.view_is c.in-Some-place.ensures in
     let stays = c.in-Ok.ensures.stays ∙ sym c.closed.ensures ∙ c.in_default.is in
     let rows = c.in-Ok.ensures.rows ∙ ap (λ (b : BookNow). set b.rows at None) c.self.view_is in
-    let takes = subst (λ (b : BookNow). TakesPlaceOf {T = Unit} 0 (without_row b.store at) c.clear.new.self.book.store b.store.held start end (Ok tt))
-    c.self.view_is c.in-Ok.ensures.takes in
-    (is_open, (at, place, cleared g.K.Kem.mechanism c.args.name.now old c.clear.new.self.book at place start end (c.requires is_open) takes stays rows))
+    let takes = subst (λ (b : BookNow). TakesPlaceOf {T = Unit} 0 (without_row b.store at) c.clear.new.self.book.store
+    b.store.held start end (Ok tt))
+    c.self.view_is c.in-Ok.ensures.takes in (
+      is_open,
+      (
+        at,
+        place,
+        cleared g.K.Kem.mechanism c.args.name.now old c.clear.new.self.book at place start end
+            (c.requires is_open) takes stays rows,
+      ),
+    )
 
 pub returns-in-Ok-clause-steps : goal.returns-in-Ok-clause-steps
 returns-in-Ok-clause-steps g c =

@@ -13,12 +13,13 @@ use Rattle.book.proofs.Called.{of_book, says_at}
 use Rattle.book.proofs.Said.{says_step}
 use Rattle.book.proofs.Stepped.{closed_step, none_step}
 use Rattle.book.proofs.book.Book.say.Goals as goal
+use Rattle.session_model.specs.Contents.{text_content}
 
 pub returns-in-Some-clause-steps : goal.returns-in-Some-clause-steps
 returns-in-Some-clause-steps g c = (
   None,
   was_none refl,
-  closed_step g.K.Kem.mechanism c.args.name.now c.args.self.now c.args.self.now (calls (acts (saying c.args.text.now None)))
+  closed_step g.K.Kem.mechanism c.args.name.now c.args.self.now c.args.self.now (calls (acts (saying (text_content c.args.text.now) None)))
       c.in-Some.call refl (sym (ap (λ (b : BookNow). b.closed) c.self.view_is) ∙ sym c.closed.ensures ∙ c.in-Some.is) refl,
 )
 
@@ -26,7 +27,7 @@ pub returns-in_default-place-clause-steps : goal.returns-in_default-place-clause
 returns-in_default-place-clause-steps g c = (
   None,
   was_none refl,
-  none_step g.K.Kem.mechanism c.args.name.now c.args.self.now c.args.self.now (acts (saying c.args.text.now None))
+  none_step g.K.Kem.mechanism c.args.name.now c.args.self.now c.args.self.now (acts (saying (text_content c.args.text.now) None))
       (sym (ap (λ (b : BookNow). b.closed) c.self.view_is) ∙ sym c.closed.ensures ∙ c.in_default.is)
       (subst (λ (b : BookNow). under c.args.name.now b.rows ≡ None) c.self.view_is c.in_default-place.ensures) refl,
 )
@@ -46,9 +47,15 @@ returns-in-Ok-clause-answers g c =
         place,
         of_book (λ (a b : RowNow). RowSays g.D.Disk.state g.W.Draws.at g.K.Kem.mechanism c.args.text.now a b
             c.args.disk.now c.say.new.disk c.args.draws.now c.say.new.draws (Ok c.in-Ok.position)) old at was is same
-            (says_at g.D.Disk.state g.W.Draws.at g.K.Kem.mechanism c.args.text.now was is c.args.disk.now c.say.new.disk
+            (says_at g.D.Disk.state g.W.Draws.at g.K.Kem.mechanism (text_content c.args.text.now) was is c.args.disk.now c.say.new.disk
             c.args.draws.now c.say.new.draws (Ok c.in-Ok.position) c.in-Ok.ensures.exact)
-            (record { exact = c.in-Ok.ensures.exact; ready = c.in-Ok.ensures.ready; in_worlds = c.in-Ok.ensures.in_worlds; spent = c.in-Ok.ensures.spent; fate = c.in-Ok.ensures.fate }),
+            (record {
+              exact = c.in-Ok.ensures.exact;
+              ready = c.in-Ok.ensures.ready;
+              in_worlds = c.in-Ok.ensures.in_worlds;
+              spent = c.in-Ok.ensures.spent;
+              fate = c.in-Ok.ensures.fate;
+            }),
       ),
     )
 
@@ -63,9 +70,9 @@ returns-in-Ok-clause-steps g c =
     let same = c.use_row.ensures ∙ ap (λ (b : BookNow). row_in b at) c.self.view_is in
     says_step g.K.Kem.mechanism c.args.name.now c.args.text.now old is.book at place (g.D.Disk.state c.args.disk.now) (c.requires is_open)
     is_open g.D.Disk.state g.W.Draws.at c.args.disk.now c.say.new.disk c.args.draws.now c.say.new.draws (Ok c.in-Ok.position)
-    (of_book (λ (a b : RowNow). KeeperSaysWithDraw row_keeping g.D.Disk.state g.W.Draws.at g.K.Kem.mechanism c.args.text.now a b
-    c.args.disk.now c.say.new.disk c.args.draws.now c.say.new.draws (Ok c.in-Ok.position)) old at was is same
-    (says_at g.D.Disk.state g.W.Draws.at g.K.Kem.mechanism c.args.text.now was is c.args.disk.now c.say.new.disk
+    (of_book (λ (a b : RowNow). KeeperSaysWithDraw row_keeping g.D.Disk.state g.W.Draws.at g.K.Kem.mechanism (text_content c.args.text.now)
+    a b c.args.disk.now c.say.new.disk c.args.draws.now c.say.new.draws (Ok c.in-Ok.position)) old at was is same
+    (says_at g.D.Disk.state g.W.Draws.at g.K.Kem.mechanism (text_content c.args.text.now) was is c.args.disk.now c.say.new.disk
     c.args.draws.now c.say.new.draws (Ok c.in-Ok.position) c.in-Ok.ensures.exact)
     c.in-Ok.ensures.exact)
 
@@ -84,9 +91,15 @@ returns-in-Err-clause-answers g c =
         place,
         of_book (λ (a b : RowNow). RowSays g.D.Disk.state g.W.Draws.at g.K.Kem.mechanism c.args.text.now a b
             c.args.disk.now c.say.new.disk c.args.draws.now c.say.new.draws (Err c.in-Err.refusal)) old at was is same
-            (says_at g.D.Disk.state g.W.Draws.at g.K.Kem.mechanism c.args.text.now was is c.args.disk.now c.say.new.disk
+            (says_at g.D.Disk.state g.W.Draws.at g.K.Kem.mechanism (text_content c.args.text.now) was is c.args.disk.now c.say.new.disk
             c.args.draws.now c.say.new.draws (Err c.in-Err.refusal) c.in-Err.ensures.exact)
-            (record { exact = c.in-Err.ensures.exact; ready = c.in-Err.ensures.ready; in_worlds = c.in-Err.ensures.in_worlds; spent = c.in-Err.ensures.spent; fate = c.in-Err.ensures.fate }),
+            (record {
+              exact = c.in-Err.ensures.exact;
+              ready = c.in-Err.ensures.ready;
+              in_worlds = c.in-Err.ensures.in_worlds;
+              spent = c.in-Err.ensures.spent;
+              fate = c.in-Err.ensures.fate;
+            }),
       ),
     )
 
@@ -101,8 +114,8 @@ returns-in-Err-clause-steps g c =
     let same = c.use_row.ensures ∙ ap (λ (b : BookNow). row_in b at) c.self.view_is in
     says_step g.K.Kem.mechanism c.args.name.now c.args.text.now old is.book at place (g.D.Disk.state c.args.disk.now) (c.requires is_open)
     is_open g.D.Disk.state g.W.Draws.at c.args.disk.now c.say.new.disk c.args.draws.now c.say.new.draws (Err c.in-Err.refusal)
-    (of_book (λ (a b : RowNow). KeeperSaysWithDraw row_keeping g.D.Disk.state g.W.Draws.at g.K.Kem.mechanism c.args.text.now a b
-    c.args.disk.now c.say.new.disk c.args.draws.now c.say.new.draws (Err c.in-Err.refusal)) old at was is same
-    (says_at g.D.Disk.state g.W.Draws.at g.K.Kem.mechanism c.args.text.now was is c.args.disk.now c.say.new.disk
+    (of_book (λ (a b : RowNow). KeeperSaysWithDraw row_keeping g.D.Disk.state g.W.Draws.at g.K.Kem.mechanism (text_content c.args.text.now)
+    a b c.args.disk.now c.say.new.disk c.args.draws.now c.say.new.draws (Err c.in-Err.refusal)) old at was is same
+    (says_at g.D.Disk.state g.W.Draws.at g.K.Kem.mechanism (text_content c.args.text.now) was is c.args.disk.now c.say.new.disk
     c.args.draws.now c.say.new.draws (Err c.in-Err.refusal) c.in-Err.ensures.exact)
     c.in-Err.ensures.exact)

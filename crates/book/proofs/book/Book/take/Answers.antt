@@ -27,7 +27,14 @@ returns-in-Ok-clause-answers g c =
             c.args.disk.now c.take.new.disk (Ok c.in-Ok.position)) old at was is same
             (stays_at g.D.Disk.state (act_on g.K.Kem.mechanism (row_keeping.kept was) (taking c.args.packet.now)) was is c.args.disk.now
             c.take.new.disk (taken_as (Ok c.in-Ok.position)) c.in-Ok.ensures.exact)
-            (record { exact = c.in-Ok.ensures.exact; ready = c.in-Ok.ensures.ready; in_worlds = c.in-Ok.ensures.in_worlds; spent = c.in-Ok.ensures.spent; arrived = c.in-Ok.ensures.arrived; fate = c.in-Ok.ensures.fate }),
+            (record {
+              exact = c.in-Ok.ensures.exact;
+              ready = c.in-Ok.ensures.ready;
+              in_worlds = c.in-Ok.ensures.in_worlds;
+              spent = c.in-Ok.ensures.spent;
+              arrived = c.in-Ok.ensures.arrived;
+              fate = c.in-Ok.ensures.fate;
+            }),
       ),
     )
 
@@ -66,7 +73,14 @@ returns-in-Err-clause-answers g c =
             c.args.disk.now c.take.new.disk (Err c.in-Err.refusal)) old at was is same
             (stays_at g.D.Disk.state (act_on g.K.Kem.mechanism (row_keeping.kept was) (taking c.args.packet.now)) was is c.args.disk.now
             c.take.new.disk (taken_as (Err c.in-Err.refusal)) c.in-Err.ensures.exact)
-            (record { exact = c.in-Err.ensures.exact; ready = c.in-Err.ensures.ready; in_worlds = c.in-Err.ensures.in_worlds; spent = c.in-Err.ensures.spent; arrived = c.in-Err.ensures.arrived; fate = c.in-Err.ensures.fate }),
+            (record {
+              exact = c.in-Err.ensures.exact;
+              ready = c.in-Err.ensures.ready;
+              in_worlds = c.in-Err.ensures.in_worlds;
+              spent = c.in-Err.ensures.spent;
+              arrived = c.in-Err.ensures.arrived;
+              fate = c.in-Err.ensures.fate;
+            }),
       ),
     )
 

@@ -28,4 +28,5 @@ returns-in-Ok-clause-takes g c =
     c.self.inside.store.held start end (Ok tt)) c.copied.ensures
     (subst (λ (t : List ℕ). TakesPlaceOf {T = Unit} (writes_at c.self.inside.store c.args.at t)
     (with_row c.self.inside.store c.args.at c.copied.result t) c.put_row.new.store
-    c.self.inside.store.held start end (Ok tt)) c.write_now-len.ensures.written c.in-Ok.ensures.takes)))
+    c.self.inside.store.held start end (Ok tt))
+    (c.write_now-len.ensures.written ∙ ap (λ (x : Client). record_text x) c.core.ensures) c.in-Ok.ensures.takes)))

@@ -45,7 +45,8 @@ returns-in-Ok g c =
       book = record { rows = set rows s.at c.keep_row.new.row; store = c.keep_row.new.store; closed = s.closed };
       at = s.at;
     } in
-    subst (λ (n : RowNow). IsKeeperAct row_keeping state (Ok (drafted_step (row_keeping.kept n) draft)) n is c.args.disk.now c.keep_row.new.disk
+    subst (λ (n : RowNow). IsKeeperAct row_keeping state (Ok (drafted_step (row_keeping.kept n) draft)) n is c.args.disk.now
+    c.keep_row.new.disk
     (kept_as (drafted_answer draft) (Ok tt))) c.self.view_is
     (subst (λ (x : Client). IsKeeperAct row_keeping state (Ok (step (drafted_answer draft) (drafted_client x draft))) was is
     c.args.disk.now c.keep_row.new.disk (kept_as (drafted_answer draft) (Ok tt))) (sym (ap kept_of here.1))
@@ -86,7 +87,8 @@ returns-in-Err g c =
       };
       at = s.at;
     } in
-    subst (λ (n : RowNow). IsKeeperAct row_keeping state (Ok (drafted_step (row_keeping.kept n) draft)) n is c.args.disk.now c.keep_row.new.disk
+    subst (λ (n : RowNow). IsKeeperAct row_keeping state (Ok (drafted_step (row_keeping.kept n) draft)) n is c.args.disk.now
+    c.keep_row.new.disk
     (kept_as (drafted_answer draft) (Err c.in-Err.fault.call))) c.self.view_is
     (subst (λ (x : Client). IsKeeperAct row_keeping state (Ok (step (drafted_answer draft) (drafted_client x draft))) was is
     c.args.disk.now c.keep_row.new.disk (kept_as (drafted_answer draft) (Err c.in-Err.fault.call))) (sym (ap kept_of here.1))

@@ -1,4 +1,4 @@
-use Rattle.std.proofs.Common.{Err, List, Ok, Option, ap, arith, false, inl, length, refl, subst, sym, true, ℕ, ◌<◌, ◌∙◌, ◌≡◌}
+use Rattle.std.proofs.Common.{Err, List, Ok, Option, ap, arith, false, inl, length, refl, subst, sym, true, ℕ, ◌*◌, ◌+◌, ◌<◌, ◌∙◌, ◌≡◌}
 use Rattle.dr_disk.specs.Spans.{Span}
 use Rattle.dr_disk.specs.State.{DiskState}
 use Rattle.dr_disk.proofs.Calling.{then_failed, then_passed}
@@ -12,7 +12,13 @@ use Rattle.session_model.specs.Clients.{Client}
 use Rattle.book.specs.Books.{IsStoreReady}
 use Rattle.book.specs.Opening.{AreNewest, AreRowsRead}
 use Rattle.book.specs.RowKeepings.{RowNow}
-use Rattle.book.specs.Renewing.{Renews}
+use Rattle.book.specs.Renewing.{Renews, missed_by, renewings}
+use Rattle.book_store.specs.Store.{committed, retire_calls}
+use Rattle.book_store.specs.declared.errors.StoreFault.{StoreFault}
+use Rattle.book_store.specs.declared.layout.TheConstants.{ROW_MOST}
+use Rattle.pages.specs.Counted.{MakesAtMost}
+use Rattle.pages.specs.Stops.{puts, retires}
+use Rattle.book.proofs.Few.{few_as, few_of, few_then, settling_few}
 use Rattle.book.specs.Rows.{stored}
 use Rattle.book.proofs.Renewed.{all_newest, all_renewed, kept_span, renewed_span}
 use Rattle.book.proofs.shelf.Shelf.renew.Goals as goal
@@ -30,6 +36,9 @@ returns-then-are_newest-clause-ready g c =
           (all_newest k s.rows.items s.store start ready (c.record_law.ensures.newest k) read c.self.invariant.2
           (λ r row lt is. c.are_newest.ensures.all c.if-are_newest.true r row (omega (arith, lt, c.len.ensures, s.rows.ok.0)) is));
     }
+
+pub returns-then-are_newest-clause-few : goal.returns-then-are_newest-clause-few
+returns-then-are_newest-clause-few g c = record { told = λ m is. (m, is, omega arith) }
 
 pub renew_rows-requires-clause-read : goal.renew_rows-requires-clause-read
 renew_rows-requires-clause-read g c =
@@ -59,6 +68,18 @@ returns-in-Err-clause-reads g c =
     let start = g.D.Disk.state c.args.disk.now in
     let end = g.D.Disk.state c.renew_rows.new.disk in
     subst (λ (n : RowNow). ReadsOutsideBook n.book.store.rows start end) c.self.view_is c.renew_rows.ensures.reads
+
+pub returns-in-Err-clause-few : goal.returns-in-Err-clause-few
+returns-in-Err-clause-few g c =
+    let start = g.D.Disk.state c.args.disk.now in
+    let end = g.D.Disk.state c.renew_rows.new.disk in
+    let s = c.self.inside in
+    subst (λ (n : RowNow). MakesAtMost {T = Unit} (renewings (length n.book.rows)) missed_by start end (Err c.in-Err.fault))
+    c.self.view_is
+    (few_as {T = Unit} {U = Unit} (ROW_MOST * length s.rows.items) (renewings (length s.rows.items)) missed_by missed_by start end
+    (Err c.in-Err.fault) (Err c.in-Err.fault) refl (omega arith)
+    (subst (λ (l : Rows Client). MakesAtMost {T = Unit} (ROW_MOST * length l) missed_by start end (Err c.in-Err.fault))
+    c.deref.ensures.value c.in-Err.ensures.few))
 
 pub invariant_of-self-in-Ok-settle : goal.invariant_of-self-in-Ok-settle
 invariant_of-self-in-Ok-settle c = λ c'.
@@ -108,7 +129,8 @@ returns-in-Ok-settle-clause-any_moment g c =
     subst (λ (n : RowNow). Span start end (IsOldOrNewBook n.book.store.rows n.book.store.held (stored n.book.rows) start)) c.self.view_is
     (renewed_span s.store.rows s.store.held (stored s.rows.items) start mid end so.still so.any_moment
     (subst (λ n. Span mid end (IsOldOrNewBook n s.store.held (stored s.rows.items) mid)) so.rows_are
-    (subst (λ (h : List (Option BookRow)). Span mid end (IsOldOrNewBook c.renew_rows.new.store.rows s.store.held h mid)) held takes.any_moment)))
+    (subst (λ (h : List (Option BookRow)). Span mid end (IsOldOrNewBook c.renew_rows.new.store.rows s.store.held h mid)) held
+    takes.any_moment)))
 
 pub returns-in-Ok-settle-clause-still : goal.returns-in-Ok-settle-clause-still
 returns-in-Ok-settle-clause-still g c = λ newest.
@@ -139,6 +161,25 @@ returns-in-Ok-settle-clause-went g c =
     let takes = c.in-Ok-settle.ensures s.store.held so.over in
     then_passed {T = Unit} {U = Unit} {V = Unit} call_of call_of call_of tt tt tt start mid end so.went takes.went.calls.went
 
+pub returns-in-Ok-settle-clause-few : goal.returns-in-Ok-settle-clause-few
+returns-in-Ok-settle-clause-few g c =
+    let start = g.D.Disk.state c.args.disk.now in
+    let mid = g.D.Disk.state c.renew_rows.new.disk in
+    let end = g.D.Disk.state c.settle.new.disk in
+    let s = c.self.inside in
+    let so = c.in-Ok.ensures.renews in
+    let staged = c.renew_rows.new.store in
+    let takes = c.in-Ok-settle.ensures s.store.held so.over in
+    let first = subst (λ (l : Rows Client). MakesAtMost {T = Unit} {E = StoreFault} (ROW_MOST * length l) missed_by start mid (Ok tt))
+    c.deref.ensures.value c.in-Ok.ensures.few in
+    let next = subst (λ n. MakesAtMost {T = Unit} {E = StoreFault} (puts 0 + retires (ROW_MOST * n)) missed_by mid end (Ok tt))
+    (so.rows_are ∙ sym c.self.invariant.1)
+    (few_of {T = Unit} (puts 0 + retire_calls (committed staged)) (puts 0 + retires (ROW_MOST * staged.rows)) mid end (Ok tt)
+    (settling_few staged c.in-Ok.ensures.drops) takes.any_moment.passes takes.went.calls) in
+    subst (λ (n : RowNow). MakesAtMost {T = Unit} (renewings (length n.book.rows)) missed_by start end (Ok tt)) c.self.view_is
+    (few_then {T = Unit} {U = Unit} {V = Unit} (ROW_MOST * length s.rows.items) (puts 0 + retires (ROW_MOST * length s.rows.items))
+    (renewings (length s.rows.items)) missed_by missed_by missed_by tt start mid end (Ok tt) (Ok tt) refl (omega arith) first next)
+
 pub invariant_of-self-in-Err-settle : goal.invariant_of-self-in-Err-settle
 invariant_of-self-in-Err-settle c = λ c'.
     let so = c'.in-Ok.ensures.renews in
@@ -162,7 +203,8 @@ returns-in-Err-settle-clause-any_moment g c =
     subst (λ (n : RowNow). Span start end (IsOldOrNewBook n.book.store.rows n.book.store.held (stored n.book.rows) start)) c.self.view_is
     (renewed_span s.store.rows s.store.held (stored s.rows.items) start mid end so.still so.any_moment
     (subst (λ n. Span mid end (IsOldOrNewBook n s.store.held (stored s.rows.items) mid)) so.rows_are
-    (subst (λ (h : List (Option BookRow)). Span mid end (IsOldOrNewBook c.renew_rows.new.store.rows s.store.held h mid)) held takes.any_moment)))
+    (subst (λ (h : List (Option BookRow)). Span mid end (IsOldOrNewBook c.renew_rows.new.store.rows s.store.held h mid)) held
+    takes.any_moment)))
 
 pub returns-in-Err-settle-clause-still : goal.returns-in-Err-settle-clause-still
 returns-in-Err-settle-clause-still g c = λ newest.
@@ -193,3 +235,26 @@ returns-in-Err-settle-clause-went g c =
     let takes = c.in-Err-settle.ensures s.store.held so.over in
     then_failed {T = Unit} {U = Unit} {V = Unit} call_of call_of call_of tt c.in-Err-settle.fault c.in-Err-settle.fault start mid end
     (KeepsRows s.store.rows s.store.held start) refl so.any_moment so.went takes.went.calls.went
+
+pub returns-in-Err-settle-clause-few : goal.returns-in-Err-settle-clause-few
+returns-in-Err-settle-clause-few g c =
+    let start = g.D.Disk.state c.args.disk.now in
+    let mid = g.D.Disk.state c.renew_rows.new.disk in
+    let end = g.D.Disk.state c.settle.new.disk in
+    let s = c.self.inside in
+    let so = c.in-Ok.ensures.renews in
+    let staged = c.renew_rows.new.store in
+    let takes = c.in-Err-settle.ensures s.store.held so.over in
+    let first = subst (λ (l : Rows Client). MakesAtMost {T = Unit} {E = StoreFault} (ROW_MOST * length l) missed_by start mid (Ok tt))
+    c.deref.ensures.value c.in-Ok.ensures.few in
+    let next = subst (λ n. MakesAtMost {T = Unit} {E = StoreFault} (puts 0 + retires (ROW_MOST * n)) missed_by mid end
+    (Err c.in-Err-settle.fault))
+    (so.rows_are ∙ sym c.self.invariant.1)
+    (few_of {T = Unit} (puts 0 + retire_calls (committed staged)) (puts 0 + retires (ROW_MOST * staged.rows)) mid end
+    (Err c.in-Err-settle.fault)
+    (settling_few staged c.in-Ok.ensures.drops) takes.any_moment.passes takes.went.calls) in
+    subst (λ (n : RowNow). MakesAtMost {T = Unit} (renewings (length n.book.rows)) missed_by start end
+    (Err c.in-Err-settle.fault)) c.self.view_is
+    (few_then {T = Unit} {U = Unit} {V = Unit} (ROW_MOST * length s.rows.items) (puts 0 + retires (ROW_MOST * length s.rows.items))
+    (renewings (length s.rows.items)) missed_by missed_by missed_by tt start mid end (Err c.in-Err-settle.fault)
+    (Err c.in-Err-settle.fault) refl (omega arith) first next)

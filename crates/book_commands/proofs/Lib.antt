@@ -1,0 +1,12 @@
+mod Reading
+mod Fitting
+mod Opened
+mod Acted
+mod Codes
+mod Counted
+mod Placed
+mod Changed
+mod Forgets
+mod Firsts
+mod Begins
+mod Others

@@ -1,0 +1,17 @@
+use Rattle.command_lines.specs.Closing.{ending_by, lines_of_ending}
+use Rattle.command_lines.proofs.Counting.{take_counts}
+use Rattle.book_commands.specs.Places.{name_place}
+use Rattle.book_commands.proofs.Codes.{missing_code}
+use Rattle.book_commands.proofs.taking.take.Goals as goal
+
+pub returns-clause-runs : goal.returns-clause-runs
+returns-clause-runs g c =
+    take_counts (name_place g.K.Kem.mechanism c.args.name.now) missing_code g.D.Disk.state g.K.Kem.mechanism c.args.disk.now
+    c.read_and_take-worked.new.disk (g.S.Source.at c.args.source.now) (g.S.Source.at c.read_and_take-worked.new.source)
+    (g.O.Sink.at c.args.out.now) (g.O.Sink.at c.close.new.out) c.close.result.code
+    (record {
+      ending = ending_by c.read_and_take-worked.result;
+      lines = lines_of_ending c.read_and_take-worked.result;
+      came = c.read_and_take-worked.ensures.runs;
+      ends = c.close.ensures.ends;
+    }) c.close.ensures.later
