@@ -8,10 +8,10 @@ use Rattle.session_model.specs.declared.answer.Answer.TheVariants.{Said, Opened,
 use Rattle.session_model.specs.declared.answer.Items.{Items}
 use Rattle.session_model.specs.declared.answer.Items.TheVariants.{Packets, Texts}
 use Rattle.session_model.specs.declared.answer.Refusal.{Refusal}
-use Rattle.session_model.specs.declared.answer.Refusal.TheVariants.{TextTooLong, OutboxFull, EpochFull, LastEpoch, NoPair, Malformed, OtherSession, OwnPacket, Ahead, Spent, Count, SkipLimit, BadTag, BadPadding, InboxFull, Fewer}
+use Rattle.session_model.specs.declared.answer.Refusal.TheVariants.{NoParts, TextTooLong, OutboxFull, EpochFull, LastEpoch, NoPair, Malformed, OtherSession, OwnPacket, Ahead, Spent, Count, SkipLimit, BadTag, BadPadding, InboxFull, NoLong, Fewer}
 use Rattle.session_model.specs.declared.answer.Summary.{Summary}
 use Rattle.session_model.specs.declared.answer.Which.{Which}
-use Rattle.session_model.specs.declared.answer.Which.TheVariants.{Oldest}
+use Rattle.session_model.specs.declared.answer.Which.TheVariants.{OfId, Oldest}
 
 -- `epoch.index`
 unfoldable pub position_text : Position → List ℕ
@@ -30,6 +30,7 @@ kind_text Long = codes "Long"
 
 -- a refusal's name and values
 unfoldable pub refusal_text : Refusal → List ℕ
+refusal_text NoParts = codes "NoParts"
 refusal_text (TextTooLong len) = codes "TextTooLong " ++ decimal len
 refusal_text OutboxFull = codes "OutboxFull"
 refusal_text EpochFull = codes "EpochFull"
@@ -46,6 +47,7 @@ refusal_text BadTag = codes "BadTag"
 refusal_text BadPadding = codes "BadPadding"
 refusal_text InboxFull = codes "InboxFull"
 refusal_text (Fewer held) = codes "Fewer " ++ decimal held
+refusal_text NoLong = codes "NoLong"
 
 -- what a side holds
 unfoldable pub summary_text : Summary → List ℕ
@@ -61,6 +63,7 @@ drop_word Texts = codes "done "
 -- what left a box
 unfoldable pub which_text : Which → List ℕ
 which_text (Oldest items n) = drop_word items ++ decimal n
+which_text (OfId id) = codes "done-long " ++ decimal id
 
 -- an answer in words
 unfoldable pub answer_text : Answer → List ℕ

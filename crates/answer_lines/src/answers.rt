@@ -68,6 +68,7 @@ pub fn put_refusal(line: &mut OutputLine, refusal: Refusal)
     ensures len { length line.new ≤ length line.old + 60 }
 {
     match refusal {
+        Refusal::NoParts => line.text(b"NoParts"),
         Refusal::TextTooLong(len) => put_named(line, b"TextTooLong ", len as u64),
         Refusal::OutboxFull => line.text(b"OutboxFull"),
         Refusal::EpochFull => line.text(b"EpochFull"),
@@ -93,6 +94,7 @@ pub fn put_refusal(line: &mut OutputLine, refusal: Refusal)
         Refusal::BadPadding => line.text(b"BadPadding"),
         Refusal::InboxFull => line.text(b"InboxFull"),
         Refusal::Fewer(held) => put_named(line, b"Fewer ", u64::from(held)),
+        Refusal::NoLong => line.text(b"NoLong"),
     }
 }
 
@@ -124,12 +126,13 @@ pub fn drop_word(items: Items) -> &'static [u8]
 /// Puts what left a box after what stands.
 #[tactic(auto, unfolding(crate::specs::Answers::which_text))]
 fn put_which(line: &mut OutputLine, which: Which)
-    requires { length line.old + 25 ≤ ROOM }
+    requires { length line.old + 30 ≤ ROOM }
     ensures bytes { line.new ≡ line.old ++ which_text which }
-    ensures len { length line.new ≤ length line.old + 25 }
+    ensures len { length line.new ≤ length line.old + 30 }
 {
     match which {
         Which::Oldest(items, n) => put_named(line, drop_word(items), u64::from(n)),
+        Which::OfId(id) => put_named(line, b"done-long ", u64::from(id)),
     }
 }
 

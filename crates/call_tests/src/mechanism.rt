@@ -3,7 +3,7 @@
 
 ghost use Rattle.std.specs.Prelude.{◌<◌};
 
-use bodies::Format;
+use bodies::{Format, TEXT_KIND};
 use dr_base::{Key32, Side, array_at, read_u16};
 use kem_laws::Kem;
 use ntru_ring::Workspace;
@@ -65,12 +65,12 @@ fn is_case(work: &mut Workspace, case: usize) -> bool
 /// Whether a side's packet of `hi` in epoch 1 has the length that the protocol tells, and both of
 /// its length fields.
 fn says_hi(work: &mut Workspace, first: &Session<Sntrup761>) -> bool {
-    if !matches!(first.send_check(2), Ok(true)) {
+    if !matches!(first.send_check(TEXT_KIND, b"hi"), Ok(true)) {
         return false;
     }
     let mut room = PacketRoom::new();
     let seed = Key32 { bytes: [1; 32] };
-    match first.draft_send(work, b"hi", Some(seed), &mut room) {
+    match first.draft_send(work, TEXT_KIND, b"hi", Some(seed), &mut room) {
         Err(_) => false,
         Ok(draft) => {
             let packet = draft.packet();

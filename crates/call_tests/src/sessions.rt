@@ -3,7 +3,7 @@
 ghost use Rattle.std.specs.Prelude.{◌≡◌, ◌≤◌, length, is_some};
 
 use arrayvec::ArrayVec;
-use bodies::Format;
+use bodies::{Format, TEXT_KIND};
 use dr_base::{Key32, PACKET_LIMIT, Side, TEXT_LIMIT, in_room};
 use kem_laws::{NoPair, OpenKem};
 use packet::parse;
@@ -37,10 +37,10 @@ fn seed_of(asked: bool) -> Option<Key32>
 
 /// Says a text, and answers its packet.
 pub(crate) fn say(session: &mut Session<OpenKem>, text: &[u8]) -> Result<Packet, Refusal> {
-    let asked = session.send_check(text.len())?;
+    let asked = session.send_check(TEXT_KIND, text)?;
     let seed = seed_of(asked);
     let mut room = PacketRoom::new();
-    match session.draft_send(&mut (), text, seed, &mut room) {
+    match session.draft_send(&mut (), TEXT_KIND, text, seed, &mut room) {
         Err(NoPairFor { seed: _ }) => Err(Refusal::NoPair),
         Ok(draft) => {
             let packet = in_room(draft.packet());

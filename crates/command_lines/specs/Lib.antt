@@ -1,3 +1,13 @@
 pub mod Lines
 pub mod Closing
+pub mod KeysLines
+pub mod LongLines
 pub mod Listings
+pub mod Inputs
+pub mod Limits
+pub mod Places
+pub mod Acting
+pub mod Asking
+pub mod InWorlds
+pub mod Showing
+pub mod Runs

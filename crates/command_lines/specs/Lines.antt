@@ -1,7 +1,7 @@
 -- The lines that commands show.
 use Rattle.std.specs.Prelude.{List, [], codes, decimal, flat_map, length, ℕ, ◌++◌}
 use Rattle.answer_lines.specs.Answers.{position_text}
-use Rattle.answer_lines.specs.Texts.{place_line, text_line}
+use Rattle.answer_lines.specs.Texts.{content_line, place_line}
 use Rattle.boxes.specs.Posts.{Post}
 use Rattle.dr_base.specs.declared.position.Side.{Side}
 use Rattle.dr_base.specs.declared.position.Side.TheVariants.{First, Second}
@@ -38,9 +38,9 @@ unfoldable pub packet_line : Post → List ℕ
 packet_line post =
     position_text post.position ++ codes " " ++ encode_lower post.packet ++ codes "\n"
 
--- the texts of an inbox, and the packets of an outbox, the oldest first
+-- what an inbox holds, and the packets of an outbox, the oldest first
 abbrev pub inbox_lines : Client → List ℕ
-inbox_lines kept = flat_map (text_line []) kept.inbox
+inbox_lines kept = flat_map (content_line []) kept.inbox
 
 abbrev pub outbox_lines : Client → List ℕ
 outbox_lines kept = flat_map packet_line kept.outbox

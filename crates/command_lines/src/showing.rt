@@ -4,24 +4,23 @@ ghost use Rattle.std.specs.Prelude.{◌<◌, [], length, slice_index_or};
 ghost use Rattle.boxes.specs.Entries.{Entry};
 ghost use Rattle.boxes.specs.Posts.{Post};
 ghost use Rattle.dr_ports.specs.Writing.{Writes};
-ghost use Rattle.answer_lines.specs.Texts.{text_line};
+ghost use Rattle.answer_lines.specs.Texts.{content_line};
 ghost use Rattle.command_lines.specs.Lines.{inbox_lines, outbox_lines, packet_line, state_lines};
 
 use crate::lines::{count_lines, name_lines, packet_line};
-use answer_lines::text_line;
+use answer_lines::write_content;
 use client::Core;
 use dr_ports::{Failed, Sink, write_all};
 use kem_laws::Kem;
 
-/// Writes the line of a text. The room of the line stands only here.
-#[inline(never)]
-fn write_text<K: Kem, O: Sink>(core: &Core<K>, out: &mut O, at: usize) -> Result<(), Failed>
+/// Writes the line of an entry.
+fn write_entry<K: Kem, O: Sink>(core: &Core<K>, out: &mut O, at: usize) -> Result<(), Failed>
     requires { at < length core.now.inbox }
     ensures { (d : Entry) → Writes (O.at out.old) (O.at out.new)
-        (text_line [] (slice_index_or core.now.inbox at d)) result }
+        (content_line [] (slice_index_or core.now.inbox at d)) result }
 {
     match core.inbox(at) {
-        Some(entry) => write_all(out, text_line(&[], &entry).as_slice()),
+        Some(entry) => write_content(out, &[], &entry),
         None => Ok(()),
     }
 }
@@ -44,7 +43,7 @@ pub(crate) fn write_inbox<K: Kem, O: Sink>(core: &Core<K>, out: &mut O) -> Resul
     ensures { Writes (O.at out.old) (O.at out.new) (inbox_lines core.now) result }
 {
     'texts: for at in 0..core.state().inbox {
-        match write_text(core, out, at as usize) {
+        match write_entry(core, out, at as usize) {
             Err(Failed) => return Err(Failed),
             Ok(()) => {}
         }

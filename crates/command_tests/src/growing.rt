@@ -22,27 +22,27 @@ const TAKES: [(u8, u8, &str); 5] = [
     (
         1,
         1,
-        "c8faffd109f5a2965bf59f09717abb6ffe56ce601799b16dcf10ae3c7d2c9fa6",
+        "37acc9d6574c97e1226a3b5078f78bf4e8d6f45cb4e67f6a65464460f38c417f",
     ),
     (
         2,
         2,
-        "fc5023df80a21aacc59c2e2d89052317ceaaf28c045074b952f8bb1defc123fd",
+        "c8b2948231ebcf9895972d011a1a36e9d0eae675509539a12998ce02701865ad",
     ),
     (
         3,
         64,
-        "7244867d4ea45e1adbdcddf90dfdc6b412e353e13a4ed6712bd91dbbd6361c0f",
+        "4f737bf033113b2eb23fe3fbdb2e111e477fbc7a63b9bf740f883b0b5b260a52",
     ),
     (
         65,
         127,
-        "ca28a0c478dc557cbfcda32af5aa2590c71c90b10db12eb7590739084cfec7c9",
+        "ad731c1dae7f58a323f7d5ff60f99f6ef07f513a4e21f79cc4fe947c6eebdf88",
     ),
     (
         128,
         128,
-        "925cae8556852a4503d53afa2561225dc96b25caa092db9a00348fdd3e417828",
+        "2da65a7574523814a34e398952aa4e26e33a9c0bfe27e801f682daca5e2e2aeb",
     ),
 ];
 
@@ -50,19 +50,19 @@ const TAKES: [(u8, u8, &str); 5] = [
 const DROPS: [(u32, &str); 4] = [
     (
         1,
-        "d613f72c08e8b4b4ffae8d4877cbe0273a4d3e41374f00017bba4b5ec4e6a026",
+        "5878c9070aaa0c1161d8ce8f43d7405c76e452dd5cb7e021dbddba214eabbaff",
     ),
     (
         1,
-        "698f64b8d2be6608efc88dc4a13269e4e31c50a65864d0ca8d80fd4eeca77dab",
+        "6142c525819e1293a8671a6a970eb4ab6a34505b0ddd70fff29839eb5a826024",
     ),
     (
         100,
-        "a961bc1100757746f1d247a58b8278943ff7124dec6d100cbc98ad2df169bae9",
+        "2a28b8ee40e4ee817b0cc60d0f43360a1f145ad62165e2879b38ed067279cb94",
     ),
     (
         26,
-        "d36813c80d372fa2f3926c7a67d3471aaea4c61dbbad29f5f4f09fffaf270c26",
+        "131da981e9db1423d9b08b546fe9899ca35619f0529ce580e6059d110e9345fa",
     ),
 ];
 

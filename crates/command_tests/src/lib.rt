@@ -2,6 +2,8 @@
 #![tactic(auto)]
 
 #[cfg(test)]
+mod book_words;
+#[cfg(test)]
 mod growing;
 #[cfg(test)]
 mod no_words;

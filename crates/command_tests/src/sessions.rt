@@ -112,7 +112,7 @@ fn a_text_is_taken(rt: HostRuntime) -> Result<(), Fail> {
 }
 
 /// What a look shows of a disk with the client that has begun, by another implementation.
-const BEGUN: &[u8] = b"slot 0 open 1\nslot 1 closed\nrecord 132\nrest yes\n";
+const BEGUN: &[u8] = b"slot 0 open 1\nslot 1 closed\nrecord 261\nrest yes\n";
 
 /// What one shows of a damaged disk.
 const DAMAGED: &[u8] = b"slot 0 open 1\nslot 1 open 1\ndamaged slot 1 at 1\nrest no\n";

@@ -1,7 +1,7 @@
 //! Lines of words, with the command that each must be.
 
 use bodies::Format;
-use command_words::{Ask, Command, parse};
+use command_words::{Ask, Command, Where, parse};
 use dr_base::Side;
 use std::alloc::{AllocError, Global};
 use std::test::Fail;
@@ -16,10 +16,10 @@ pub fn words_of(alloc: Global, line: &str) -> Result<Vec<String>, AllocError> {
 }
 
 /// Words, what they ask for, and their values.
-type Row<'a> = (&'a str, Ask, &'a [&'a str]);
+pub type Row<'a> = (&'a str, Ask, &'a [&'a str]);
 
 /// Words of each command.
-const ROWS: [Row<'static>; 39] = [
+const ROWS: [Row<'static>; 43] = [
     (
         "begin|first",
         Ask::Begin(Side::First, Format::Plain),
@@ -74,6 +74,10 @@ const ROWS: [Row<'static>; 39] = [
     ("sent|32", Ask::Sent(32), &["32"]),
     ("outbox", Ask::Outbox, &[]),
     ("awaiting", Ask::Awaiting, &[]),
+    ("relay-keys", Ask::RelayKeys, &[]),
+    ("long|0", Ask::Long(0), &["0"]),
+    ("long|4294967295", Ask::Long(4_294_967_295), &["4294967295"]),
+    ("done-long|+7", Ask::DoneLong(7), &["+7"]),
     ("state", Ask::State, &[]),
     ("check", Ask::Check, &[]),
     ("sync|127.0.0.1:4000", Ask::Sync, &["127.0.0.1:4000"]),
@@ -155,11 +159,11 @@ fn has(found: &Command<'_>, values: &[&str]) -> bool {
     found.values.len() == values.len()
 }
 
-/// Whether the words ask for this, with these values.
-fn are(alloc: Global, (line, ask, values): Row<'_>) -> Result<bool, AllocError> {
+/// Whether the words ask for this there, with these values.
+pub fn are(alloc: Global, place: Where, (line, ask, values): Row<'_>) -> Result<bool, AllocError> {
     let words = words_of(alloc, line)?;
     match parse(alloc, words.as_slice())? {
-        Some(found) => Ok(found.ask == ask && has(&found, values)),
+        Some(found) => Ok(found.place == place && found.ask == ask && has(&found, values)),
         None => Ok(false),
     }
 }
@@ -167,7 +171,7 @@ fn are(alloc: Global, (line, ask, values): Row<'_>) -> Result<bool, AllocError> 
 #[test]
 fn words_are_commands(rt: HostRuntime) -> Result<(), Fail> {
     for row in ROWS {
-        assert!(rt; are(rt.alloc(), row)?, "{}", row.0);
+        assert!(rt; are(rt.alloc(), Where::Folder, row)?, "{}", row.0);
     }
     Ok(())
 }

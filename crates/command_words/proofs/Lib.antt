@@ -8,3 +8,4 @@ pub mod Names
 pub mod Readings
 pub mod NumberTests
 pub mod Answering
+pub mod Tables

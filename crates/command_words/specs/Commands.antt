@@ -1,5 +1,5 @@
 -- What the words of a command say.
-use Rattle.std.specs.Prelude.{ℕ, ◌+◌, ◌&&◌, ◌||◌, Bool, false, true, nat_le, List, [], ◌∷◌, get_or, length, slice_get, Option, Some, None, option_map, option_and_then, codes, find, if◌then◌else◌}
+use Rattle.std.specs.Prelude.{ℕ, ◌+◌, ◌&&◌, ◌||◌, Bool, false, true, nat_le, List, [], ◌∷◌, ◌++◌, drop, map, get_or, length, slice_get, Option, Some, None, option_map, option_and_then, codes, find, if◌then◌else◌}
 use Rattle.std.specs.Str.{bytes_eq}
 use Rattle.bodies.specs.Formats.{format_read}
 use Rattle.bodies.specs.declared.format.Format.{Format}
@@ -8,18 +8,21 @@ use Rattle.dr_base.specs.declared.limits.TheConstants.{INBOX_LIMIT, OUTBOX_LIMIT
 use Rattle.dr_base.specs.declared.position.Side.{Side}
 use Rattle.dr_base.specs.declared.position.Side.TheVariants.{First, Second}
 use Rattle.command_words.specs.declared.command.Ask.{Ask}
-use Rattle.command_words.specs.declared.command.Ask.TheVariants.{Awaiting, Begin, Check, Done, Duet, DuetMake, Inbox, Outbox, Relay, Say, Sent, State, Sync, Take}
-use Rattle.command_words.specs.declared.limits.TheConstants.{PORT_LIMIT, CONNECTION_LIMIT, ROUND_LIMIT}
+use Rattle.command_words.specs.declared.command.Ask.TheVariants.{Awaiting, Begin, Check, Done, DoneLong, Duet, DuetMake, Forget, Inbox, List as Names, Long, Outbox, Relay, RelayKeys, Say, Sent, State, Sync, Take}
+use Rattle.command_words.specs.declared.command.Where.{Where}
+use Rattle.command_words.specs.declared.command.Where.TheVariants.{Book, Folder}
+use Rattle.command_words.specs.declared.limits.TheConstants.{CONNECTION_LIMIT, ID_LIMIT, PORT_LIMIT, ROUND_LIMIT}
 use Rattle.command_words.specs.Numbers.{number_read}
 use Rattle.command_words.specs.Values.{values_of}
 
--- what a command asks for, and its values, where its text stands, an address or boxes
+-- what a command asks for, and where; and its values, where its text stands, an address or boxes
 pub record Work : Type 0 where
+  pub place : Where
   pub ask : Ask
   pub values : List (List ℕ)
 
-abbrev pub work_with : List (List ℕ) → Ask → Work
-work_with values ask = record { ask = ask; values = values }
+abbrev pub work_with : Where → List (List ℕ) → Ask → Work
+work_with place values ask = record { place = place; ask = ask; values = values }
 
 -- `first` or `second`
 unfoldable pub side_read : List ℕ → Option Side
@@ -54,6 +57,10 @@ relay_read port count =
     option_and_then (λ p. option_map (Relay p) (count_read CONNECTION_LIMIT count))
     (count_read PORT_LIMIT port)
 
+-- the id of a long text
+abbrev pub id_read : List ℕ → Option ℕ
+id_read word = amount_read ID_LIMIT word
+
 -- a number of rounds, and the number that the script is made from
 unfoldable pub made_read : List ℕ → List ℕ → Option Ask
 made_read rounds number =
@@ -81,21 +88,33 @@ abbrev pub fits : Shape → ℕ → Bool
 fits shape count =
     nat_le shape.wanted count && (shape.more || nat_le count (shape.wanted + shape.spare))
 
--- a command's name, how many values follow it, and how they are read
+-- a command's name, where its session is, how many values follow the name, and how they are read
 pub record Row : Type 0 where
   pub name : List ℕ
+  pub place : Where
   pub shape : Shape
   pub read : List (List ℕ) → Option Ask
 
 abbrev pub row : List ℕ → Shape → (List (List ℕ) → Option Ask) → Row
-row name shape read = record { name = name; shape = shape; read = read }
+row name shape read = record { name = name; place = Folder; shape = shape; read = read }
+
+-- the same command on a session of the book: `book-` stands before its name, and the session's name
+-- before its values
+abbrev pub in_book : Row → Row
+in_book row = record {
+  name = codes "book-" ++ row.name;
+  place = Book;
+  shape = record row.shape { wanted = row.shape.wanted + 1 };
+  read = λ vs. row.read (drop 1 vs);
+}
 
 -- the value at a place
 abbrev pub value : List (List ℕ) → ℕ → List ℕ
 value values at = get_or values at []
 
-abbrev pub rows : List Row
-rows =
+-- the commands on a session, in the folder or in its book
+abbrev pub session_rows : List Row
+session_rows =
     row (codes "begin") (with_spare 1) (λ vs. begin_read (value vs 0) (slice_get vs 1))
     ∷ row (codes "say") (exactly 1) (λ vs. Some Say)
     ∷ row (codes "take") (exactly 0) (λ vs. Some Take)
@@ -105,8 +124,16 @@ rows =
     ∷ row (codes "sent") (exactly 1)
     (λ vs. option_map Sent (amount_read OUTBOX_LIMIT (value vs 0)))
     ∷ row (codes "outbox") (exactly 0) (λ vs. Some Outbox)
-    ∷ row (codes "awaiting") (exactly 0) (λ vs. Some Awaiting)
     ∷ row (codes "state") (exactly 0) (λ vs. Some State)
+    ∷ []
+
+-- those that no session of a book has
+abbrev pub folder_rows : List Row
+folder_rows =
+    row (codes "awaiting") (exactly 0) (λ vs. Some Awaiting)
+    ∷ row (codes "relay-keys") (exactly 0) (λ vs. Some RelayKeys)
+    ∷ row (codes "long") (exactly 1) (λ vs. option_map Long (id_read (value vs 0)))
+    ∷ row (codes "done-long") (exactly 1) (λ vs. option_map DoneLong (id_read (value vs 0)))
     ∷ row (codes "check") (exactly 0) (λ vs. Some Check)
     ∷ row (codes "sync") (exactly 1) (λ vs. Some Sync)
     ∷ row (codes "relay") (with_more 3) (λ vs. relay_read (value vs 0) (value vs 1))
@@ -114,14 +141,35 @@ rows =
     ∷ row (codes "duet-make") (exactly 2) (λ vs. made_read (value vs 0) (value vs 1))
     ∷ []
 
--- exactly as many values as the command has
+-- what a session of a book is asked for, behind `book-` and its name
+abbrev pub named_rows : List Row
+named_rows = row (codes "forget") (exactly 0) (λ vs. Some Forget) ∷ session_rows
+
+-- which sessions the book has
+abbrev pub list_row : Row
+list_row =
+    record (row (codes "book-list") (exactly 0) (λ vs. Some Names)) { place = Book }
+
+abbrev pub book_rows : List Row
+book_rows = list_row ∷ map in_book named_rows
+
+abbrev pub rows : List Row
+rows = session_rows ++ folder_rows ++ book_rows
+
+-- what a row asks for with these values, exactly as many as it has
+abbrev pub asks : Row → List (List ℕ) → Option Ask
+asks row values = if fits row.shape (length values) then row.read values else None
+
 abbrev pub values_read : Row → List (List ℕ) → Option Work
-values_read row values =
-    if fits row.shape (length values) then option_map (work_with values) (row.read values) else None
+values_read row values = option_map (work_with row.place values) (asks row values)
 
 -- the row of a name
 abbrev pub row_of : List Row → List ℕ → Option Row
 row_of table name = find (λ row. bytes_eq name row.name) table
+
+-- what a name of the table asks for with these values
+abbrev pub asked : List Row → List ℕ → List (List ℕ) → Option Ask
+asked table name values = option_and_then (λ row. asks row values) (row_of table name)
 
 -- a name of the table with these values
 abbrev pub command_named : List Row → List ℕ → List (List ℕ) → Option Work

@@ -4,4 +4,5 @@ use Rattle.command_words.specs.Commands.{Work}
 use Rattle.command_words.specs.declared.command.Command.{Command}
 
 abbrev pub work_of : Command → Work
-work_of command = record { ask = command.ask; values = texts command.values.items }
+work_of command =
+    record { place = command.place; ask = command.ask; values = texts command.values.items }

@@ -10,7 +10,7 @@ use clap::{Arg, ArgAction, Command};
 use std::alloc::{AllocError, Global};
 
 /// The names of the commands, in the order of their rows.
-fn names() -> [&'static str; 14]
+fn names() -> [&'static str; 27]
     ensures { texts result ≡ map (λ (row : Row). row.name) rows }
 {
     [
@@ -21,13 +21,26 @@ fn names() -> [&'static str; 14]
         "done",
         "sent",
         "outbox",
-        "awaiting",
         "state",
+        "awaiting",
+        "relay-keys",
+        "long",
+        "done-long",
         "check",
         "sync",
         "relay",
         "duet",
         "duet-make",
+        "book-list",
+        "book-forget",
+        "book-begin",
+        "book-say",
+        "book-take",
+        "book-inbox",
+        "book-done",
+        "book-sent",
+        "book-outbox",
+        "book-state",
     ]
 }
 

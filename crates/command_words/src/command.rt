@@ -7,12 +7,21 @@ ghost use Rattle.command_words.specs.Commands.{value};
 use bodies::Format;
 use dr_base::Side;
 
+/// Where the session is that a command speaks of.
+#[derive(Clone, Copy, PartialEq, Eq)]
+pub enum Where {
+    /// It is the one of the folder.
+    Folder,
+    /// It is in the folder's book, under the name that is the first value.
+    Book,
+}
+
 /// What a command asks for.
 #[derive(Clone, Copy, PartialEq, Eq)]
 pub enum Ask {
     /// A session of this side begins, which seals its texts in this format.
     Begin(Side, Format),
-    /// The side says the text that is the first value.
+    /// The side says the text that is the first value, and in a book the second.
     Say,
     /// The side takes a packet.
     Take,
@@ -26,6 +35,8 @@ pub enum Ask {
     Outbox,
     /// The side shows which of its texts wait for a receipt.
     Awaiting,
+    /// The side shows the keys of its session's boxes at a relay.
+    RelayKeys,
     /// The side shows what it holds, in numbers.
     State,
     /// The side shows how its disk stands, and changes nothing.
@@ -36,6 +47,14 @@ pub enum Ask {
     /// A relay serves this many connections at a port, with the boxes that are the values from the
     /// third on, in order.
     Relay { port: u16, count: u32 },
+    /// The long text of this id is shown.
+    Long(u32),
+    /// All parts of the long text of this id leave the inbox.
+    DoneLong(u32),
+    /// The session leaves the book.
+    Forget,
+    /// The book shows the names of its sessions.
+    List,
     /// A script plays both sides.
     Duet,
     /// A script of this many rounds, made from a number, plays both sides.
@@ -45,6 +64,7 @@ pub enum Ask {
 /// A command, with the values that stand after its name.
 #[derive(PartialEq, Eq, Drop)]
 pub struct Command<'a> {
+    pub place: Where,
     pub ask: Ask,
     pub values: Vec<&'a str>,
 }

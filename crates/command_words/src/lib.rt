@@ -9,15 +9,16 @@
 //! let Some(command) = parse(alloc, words)? else {
 //!     .. // the words are no command
 //! };
-//! match command.ask {
-//!     Ask::Say => .. // `say TEXT`: the text is `command.value(0)`
+//! match (command.place, command.ask) {
+//!     (Where::Folder, Ask::Say) => .. // `say TEXT`: the text is `command.value(0)`
+//!     (Where::Book, Ask::Say) => .. // `book-say NAME TEXT`
 //!     other => ..
 //! }
 //! ```
 #![tactic(auto)]
 
-pub use command::{Ask, Command};
-pub use limits::{CONNECTION_LIMIT, PORT_LIMIT, ROUND_LIMIT, limits_in_numbers};
+pub use command::{Ask, Command, Where};
+pub use limits::{CONNECTION_LIMIT, ID_LIMIT, PORT_LIMIT, ROUND_LIMIT, limits_in_numbers};
 pub use words::parse;
 
 mod application;

@@ -11,6 +11,9 @@ pub const CONNECTION_LIMIT: u32 = 1_000_000;
 /// The most rounds of a script that is made.
 pub const ROUND_LIMIT: u32 = 1_000;
 
+/// The greatest id of a long text.
+pub const ID_LIMIT: usize = u32::MAX as usize;
+
 /// The limits of this crate as numbers. The function has no code.
 pub fn limits_in_numbers()
     ensures { HasLimits }

@@ -1,14 +1,14 @@
 //! The command of a name and of the values after it.
 
-ghost use Rattle.std.specs.Prelude.{◌≡◌, ℕ, List, [], ◌∷◌, option_map};
+ghost use Rattle.std.specs.Prelude.{◌≡◌, ◌++◌, ℕ, List, [], ◌∷◌, codes, is_some, option_map};
 ghost use Rattle.clap.specs.Walk.{texts};
 ghost use Rattle.dr_base.specs.declared.limits.TheConstants.{INBOX_LIMIT, OUTBOX_LIMIT};
-ghost use Rattle.command_words.specs.declared.limits.TheConstants.{CONNECTION_LIMIT, PORT_LIMIT, ROUND_LIMIT};
-ghost use Rattle.command_words.specs.Commands.{begin_read, command_named, made_read, relay_read, rows, work_with};
+ghost use Rattle.command_words.specs.declared.limits.TheConstants.{CONNECTION_LIMIT, ID_LIMIT, PORT_LIMIT, ROUND_LIMIT};
+ghost use Rattle.command_words.specs.Commands.{asked, begin_read, book_rows, command_named, folder_rows, made_read, named_rows, relay_read, row_of, rows, session_rows, work_with};
 ghost use Rattle.command_words.specs.Seen.{work_of};
 
-use crate::command::{Ask, Command};
-use crate::limits::{CONNECTION_LIMIT, ROUND_LIMIT};
+use crate::command::{Ask, Command, Where};
+use crate::limits::{CONNECTION_LIMIT, ID_LIMIT, ROUND_LIMIT};
 use crate::reading::{amount_of, count_of, format_of, number_of, port_of, side_of};
 use dr_base::{INBOX_LIMIT, OUTBOX_LIMIT};
 
@@ -42,54 +42,103 @@ fn made_of(rounds: &str, number: &str) -> Option<Ask>
     Some(Ask::DuetMake { rounds, number })
 }
 
-/// What a name without a value asks for.
-fn without_value(name: &str) -> Option<Ask>
-    ensures { option_map (work_with []) result ≡ command_named rows name.now [] }
+/// Whether a session of a book has the command of this name too.
+fn is_of_session(name: &str) -> bool
+    ensures { result ≡ is_some (row_of session_rows name.now) }
+{
+    match name {
+        "begin" | "say" | "take" | "inbox" | "done" | "sent" | "outbox" | "state" => true,
+        _ => false,
+    }
+}
+
+/// What a name without a value asks of a session.
+fn asked_bare(name: &str) -> Option<Ask>
+    ensures { result ≡ asked session_rows name.now [] }
 {
     match name {
         "take" => Some(Ask::Take),
         "inbox" => Some(Ask::Inbox),
         "outbox" => Some(Ask::Outbox),
-        "awaiting" => Some(Ask::Awaiting),
         "state" => Some(Ask::State),
-        "check" => Some(Ask::Check),
-        "duet" => Some(Ask::Duet),
         _ => None,
     }
 }
 
-/// What a name with this value asks for.
-fn with_value(name: &str, value: &str) -> Option<Ask>
-    ensures { option_map (work_with (value.now ∷ [])) result
-        ≡ command_named rows name.now (value.now ∷ []) }
+/// What a name with this value asks of a session.
+fn asked_with(name: &str, value: &str) -> Option<Ask>
+    ensures { result ≡ asked session_rows name.now (value.now ∷ []) }
 {
     match name {
         "begin" => begin_of(value, None),
         "say" => Some(Ask::Say),
         "done" => Some(Ask::Done(amount_of(INBOX_LIMIT, value)?)),
         "sent" => Some(Ask::Sent(amount_of(OUTBOX_LIMIT, value)?)),
+        _ => None,
+    }
+}
+
+/// What a name with these two values asks of a session.
+fn asked_with_two(name: &str, first: &str, second: &str) -> Option<Ask>
+    ensures { result ≡ asked session_rows name.now (first.now ∷ second.now ∷ []) }
+{
+    match name {
+        "begin" => begin_of(first, Some(second)),
+        _ => None,
+    }
+}
+
+/// What a name with these values asks of a session.
+fn asked_of_session(name: &str, values: &[&str]) -> Option<Ask>
+    ensures { result ≡ asked session_rows name.now (texts values.now) }
+{
+    match values {
+        [] => asked_bare(name),
+        [value] => asked_with(name, value),
+        [first, second] => asked_with_two(name, first, second),
+        [_, _, ..] => None,
+    }
+}
+
+/// What a name without a value asks for that no session of a book has.
+fn alone_bare(name: &str) -> Option<Ask>
+    ensures { result ≡ asked folder_rows name.now [] }
+{
+    match name {
+        "awaiting" => Some(Ask::Awaiting),
+        "relay-keys" => Some(Ask::RelayKeys),
+        "check" => Some(Ask::Check),
+        "duet" => Some(Ask::Duet),
+        _ => None,
+    }
+}
+
+/// What a name with one value asks for that no session of a book has.
+fn alone_with(name: &str, value: &str) -> Option<Ask>
+    ensures { result ≡ asked folder_rows name.now (value.now ∷ []) }
+{
+    match name {
+        "long" => Some(Ask::Long(amount_of(ID_LIMIT, value)?)),
+        "done-long" => Some(Ask::DoneLong(amount_of(ID_LIMIT, value)?)),
         "sync" => Some(Ask::Sync),
         _ => None,
     }
 }
 
-/// What a name with these two values asks for.
-fn with_two(name: &str, first: &str, second: &str) -> Option<Ask>
-    ensures { option_map (work_with (first.now ∷ second.now ∷ [])) result
-        ≡ command_named rows name.now (first.now ∷ second.now ∷ []) }
+/// What a name with these two values asks for that no session of a book has.
+fn alone_with_two(name: &str, first: &str, second: &str) -> Option<Ask>
+    ensures { result ≡ asked folder_rows name.now (first.now ∷ second.now ∷ []) }
 {
     match name {
-        "begin" => begin_of(first, Some(second)),
         "duet-make" => made_of(first, second),
         _ => None,
     }
 }
 
-/// What a name with two values, and more after them, asks for.
-fn with_more(name: &str, first: &str, second: &str) -> Option<Ask>
+/// What a name with two values, and more after them, asks for that no session of a book has.
+fn alone_with_more(name: &str, first: &str, second: &str) -> Option<Ask>
     ensures { (third : List ℕ) (others : List (List ℕ))
-        → option_map (work_with (first.now ∷ second.now ∷ third ∷ others)) result
-        ≡ command_named rows name.now (first.now ∷ second.now ∷ third ∷ others) }
+        → result ≡ asked folder_rows name.now (first.now ∷ second.now ∷ third ∷ others) }
 {
     match name {
         "relay" => relay_of(first, second),
@@ -97,16 +146,49 @@ fn with_more(name: &str, first: &str, second: &str) -> Option<Ask>
     }
 }
 
-/// What a name with the values that were given asks for.
-fn ask_of(name: &str, values: &[&str]) -> Option<Ask>
-    ensures { option_map (work_with (texts values.now)) result
-        ≡ command_named rows name.now (texts values.now) }
+/// What a name asks for that no session of a book has, with these values.
+fn asked_alone(name: &str, values: &[&str]) -> Option<Ask>
+    ensures { result ≡ asked folder_rows name.now (texts values.now) }
 {
     match values {
-        [] => without_value(name),
-        [value] => with_value(name, value),
-        [first, second] => with_two(name, first, second),
-        [first, second, ..] => with_more(name, first, second),
+        [] => alone_bare(name),
+        [value] => alone_with(name, value),
+        [first, second] => alone_with_two(name, first, second),
+        [first, second, ..] => alone_with_more(name, first, second),
+    }
+}
+
+/// What a name without `book-` asks for with these values.
+fn asked_here(name: &str, values: &[&str]) -> Option<Ask>
+    ensures { result ≡ asked (session_rows ++ folder_rows) name.now (texts values.now) }
+{
+    if is_of_session(name) {
+        asked_of_session(name, values)
+    } else {
+        asked_alone(name, values)
+    }
+}
+
+/// What a name behind `book-` asks of the session whose name stands before these values.
+fn asked_of_named(name: &str, values: &[&str]) -> Option<Ask>
+    ensures { result ≡ asked named_rows name.now (texts values.now) }
+{
+    match (name, values) {
+        ("forget", []) => Some(Ask::Forget),
+        ("forget", _) => None,
+        _ => asked_of_session(name, values),
+    }
+}
+
+/// What a name behind `book-` asks for with these values.
+fn asked_of_book(name: &str, values: &[&str]) -> Option<Ask>
+    ensures { result ≡ asked book_rows (codes "book-" ++ name.now) (texts values.now) }
+{
+    match (name, values) {
+        ("list", []) => Some(Ask::List),
+        ("list", _) => None,
+        (_, []) => None,
+        (_, [_, behind @ ..]) => asked_of_named(name, behind),
     }
 }
 
@@ -114,6 +196,9 @@ fn ask_of(name: &str, values: &[&str]) -> Option<Ask>
 pub fn command_named<'a>(name: &str, values: Vec<&'a str>) -> Option<Command<'a>>
     ensures { option_map work_of result ≡ command_named rows name.now (texts values.entry.items) }
 {
-    let ask = ask_of(name, values.as_slice())?;
-    Some(Command { ask, values })
+    let (place, ask) = match name.strip_prefix("book-") {
+        Some(behind) => (Where::Book, asked_of_book(behind, values.as_slice())?),
+        None => (Where::Folder, asked_here(name, values.as_slice())?),
+    };
+    Some(Command { place, ask, values })
 }

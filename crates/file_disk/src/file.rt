@@ -1,6 +1,6 @@
 //! The disk over a file. It tells nothing of its content, and counts each error.
 
-ghost use Rattle.std.specs.Prelude.{◌≡◌, ◌<◌, ◌≤◌, ◌+◌, min, length};
+ghost use Rattle.std.specs.Prelude.{◌≡◌, ◌<◌, ◌≤◌, ◌+◌, ◌-◌, min, length};
 ghost use Rattle.std.specs.Int.{next_multiple_of};
 
 use crate::handle::Handle;
@@ -19,7 +19,7 @@ use std::rt::Files;
 /// The file takes its room in steps: before a write, zeros are written up to the end of the step
 /// that the write ends in, where the file ends before that. So a write fails for want of room only
 /// where it is the first one of its step, and a file that was to be made and found no room is
-/// removed again.
+/// removed again. Where the disk has a head, the steps begin behind it.
 ///
 /// After a sync that failed a system may take bytes for written that it lost. So the next sync
 /// writes each byte of the file anew. A disk with a mark leaves it there for the program that comes
@@ -28,6 +28,7 @@ use std::rt::Files;
 pub struct FileDisk<'a, R: Files<File = File>> {
     handle: Handle<'a, R>,
     size: u64,
+    head: u64,
     step: u64,
     reads: u64,
     writes: u64,
@@ -42,12 +43,16 @@ impl<'a, R: Files<File = File>> Model for FileDisk<'a, R> {
     ghost view = { λ d. record { size = d.size; counts = record { reads = d.reads; writes = d.writes; syncs = d.syncs; tried = 0 } } };
 }
 
-/// Where the file's room ends once it reaches `end`: at the end of a step, or of the disk.
-fn room_end(step: u64, size: u64, end: u64) -> u64
-    ensures by_steps { 0 < step → result ≡ min (next_multiple_of end step) size }
+/// Where the file's room ends once it reaches `end`: at the end of the head or of a step behind it,
+/// or of the disk.
+fn room_end(head: u64, step: u64, size: u64, end: u64) -> u64
+    ensures by_steps { 0 < step → result ≡ min (head + next_multiple_of (end - head) step) size }
     ensures at_once { step ≡ 0 → result ≡ size }
 {
-    end.checked_next_multiple_of(step).unwrap_or(size).min(size)
+    match end.saturating_sub(head).checked_next_multiple_of(step) {
+        Some(steps) => head.saturating_add(steps).min(size),
+        None => size,
+    }
 }
 
 impl<'a, R: Files<File = File>> FileDisk<'a, R> {
@@ -61,6 +66,7 @@ impl<'a, R: Files<File = File>> FileDisk<'a, R> {
         FileDisk {
             handle: Handle::new(files, path, sharing),
             size,
+            head: 0,
             step,
             reads: 0,
             writes: 0,
@@ -75,6 +81,15 @@ impl<'a, R: Files<File = File>> FileDisk<'a, R> {
     {
         let mut disk = self;
         disk.handle.set_mark(mark);
+        disk
+    }
+
+    /// The disk with a head of so many bytes, behind which its steps begin.
+    pub fn with_head(self, head: u64) -> Self
+        ensures { result ≡ self.entry }
+    {
+        let mut disk = self;
+        disk.head = head;
         disk
     }
 
@@ -122,7 +137,7 @@ impl<'a, R: Files<File = File>> Disk for FileDisk<'a, R> {
     }
 
     fn write_at(&mut self, at: u64, bytes: &[u8]) -> Result<(), Failed> {
-        let length = room_end(self.step, self.size, at + bytes.len() as u64);
+        let length = room_end(self.head, self.step, self.size, at + bytes.len() as u64);
         match self.handle.write(at, bytes, length) {
             Ok(()) => Ok(()),
             Err(_) => {

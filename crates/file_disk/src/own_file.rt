@@ -16,7 +16,7 @@ use std::os::unix::fs::{FileExt, PermissionsExt};
 const FIRST_OWN: i32 = 3;
 
 /// How many bytes are filled with zeros at once.
-const PIECE: u64 = 4_096;
+const PIECE: u64 = 65_536;
 
 /// How often a read that a signal interrupts is tried.
 const TRIES: u32 = 1_000;

@@ -5,13 +5,15 @@ use Rattle.dr_disk.specs.State.{DiskState}
 use Rattle.dr_ports.specs.declared.pipe.Part.{Part}
 use Rattle.dr_ports.specs.declared.pipe.Part.TheVariants.{Gate}
 use Rattle.session_commands.specs.Disks.{HasClientRoom}
+use Rattle.book_commands.specs.Opening.{HasBookRoom}
 use Rattle.relay_command.specs.declared.relaying.TheConstants.{RELAY_DISK_SIZE}
 use Rattle.messenger_cli.specs.Held.{PortTypes, PortsNow, Seen}
 
--- the one disk has room for a session, the other for a relay's boxes
-pub record HaveRoom (disk relay_disk : DiskState) : Type 0 where
+-- the disks have room for a session, for a relay's boxes, and for a book
+pub record HaveRoom (disk relay_disk book : DiskState) : Type 0 where
   pub session : HasClientRoom disk
   pub boxes : RELAY_DISK_SIZE ≤ relay_disk.size
+  pub rows : HasBookRoom book
 
 -- no call on a disk, no read, no write, no draw and no call on the link failed, and no listening
 -- or accepting of the door
@@ -19,6 +21,7 @@ pub record IsQuietRun {P : PortTypes} (seen : Seen P)
     (old new : PortsNow P) : Type 0 where
   pub disk : IsQuiet (seen.disk old.disk) (seen.disk new.disk)
   pub relay_disk : IsQuiet (seen.relay_disk old.relay_disk) (seen.relay_disk new.relay_disk)
+  pub book : IsQuiet (seen.book old.book) (seen.book new.book)
   pub source : (seen.source new.source).faults ≡ (seen.source old.source).faults
   pub sink : (seen.sink new.sink).faults ≡ (seen.sink old.sink).faults
   pub draws : (seen.draws new.draws).faults ≡ (seen.draws old.draws).faults

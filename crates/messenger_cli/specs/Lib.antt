@@ -4,6 +4,7 @@ pub mod Mechanisms
 pub mod Runs
 pub mod Held
 pub mod Counts
+pub mod Homes
 pub mod Performing
 pub mod Making
 pub mod Limits

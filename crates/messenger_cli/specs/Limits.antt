@@ -3,10 +3,11 @@ use Rattle.std.specs.Prelude.{◌≡◌}
 use Rattle.dr_base.specs.Limits.{HasLimits as HasConversations}
 use Rattle.bodies.specs.Limits.{HasLimits as HasBodies}
 use Rattle.pages.specs.Limits.{HasLimits as HasPages}
+use Rattle.book_store.specs.Limits.{HasLimits as HasBooks}
 use Rattle.record_pages.specs.Limits.{HasLimits as HasTables}
 use Rattle.session_record.specs.Limits.{HasLimits as HasRecords}
 use Rattle.client.specs.Limits.{HasLimits as HasPlaces}
-use Rattle.session_commands.specs.Limits.{HasLimits as HasInputs}
+use Rattle.command_lines.specs.Limits.{HasLimits as HasInputs}
 use Rattle.relay_wire.specs.Limits.{HasLimits as HasFrames}
 use Rattle.relay_core.specs.Limits.{HasLimits as HasBoxes}
 use Rattle.relay_link.specs.Limits.{HasLimits as HasLinks}
@@ -23,6 +24,7 @@ pub record HasLimits : Type 0 where
   pub records : HasRecords
   pub pages : HasPages
   pub tables : HasTables
+  pub books : HasBooks
   pub places : HasPlaces
   -- bytes of the state file
   pub disk : DISK_SIZE ≡ 1572864

@@ -46,14 +46,15 @@ fn words(alloc: Global, arguments: io::Result<Args>) -> Result<Vec<String>, Endi
 
 /// Runs the program on its arguments, as the system gave them: the first is the program's name, the
 /// others are the words. Where one of them isn't text, the system gives an error in their place.
-pub fn run_arguments<D: Disk, R: Disk, S: Source, O: Sink, L: Link, A: Door, W: Draws>(
+pub fn run_arguments<D: Disk, R: Disk, B: Disk, S: Source, O: Sink, L: Link, A: Door, W: Draws>(
     alloc: Global,
     arguments: io::Result<Args>,
-    ports: &mut Ports<D, R, S, O, L, A, W>,
+    ports: &mut Ports<D, R, B, S, O, L, A, W>,
 ) -> Status
-    requires { HaveRoom (D.state ports.old.disk) (R.state ports.old.relay_disk) }
+    requires { HaveRoom (D.state ports.old.disk) (R.state ports.old.relay_disk)
+        (B.state ports.old.book) }
     ensures { IsRun (RunsArguments arguments)
-        (ports_seen D.state R.state S.at O.at L.port A.port W.at)
+        (ports_seen D.state R.state B.state S.at O.at L.port A.port W.at)
         ports.old ports.new result.code }
 {
     match words(alloc, arguments) {

@@ -3,6 +3,7 @@
 #![tactic(auto)]
 
 pub use arguments::run_arguments;
+pub use book_store::{BOOK_SIZE, BOOK_START, ROW_SIZE};
 pub use endings::Status;
 pub use law::limits;
 pub use ports::Ports;
@@ -10,6 +11,8 @@ pub use program::{DISK_SIZE, run};
 pub use relay_command::{HALF_SIZE, RELAY_DISK_SIZE};
 
 mod arguments;
+mod in_book;
+mod in_folder;
 mod law;
 mod making;
 mod mechanisms;

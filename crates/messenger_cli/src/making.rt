@@ -1,7 +1,7 @@
 //! The command that plays a script made from a number.
 
 ghost use Rattle.std.specs.Prelude.{◌≡◌, ◌≤◌, [], IfErr, IfOk};
-ghost use Rattle.session_commands.specs.Runs.{Runs};
+ghost use Rattle.command_lines.specs.Runs.{Runs};
 ghost use Rattle.messenger_cli.specs.Making.{IsTallyOf, PlaysMade};
 
 use dr_ports::{Failed, NullSink, Sink, write_all};

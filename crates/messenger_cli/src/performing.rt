@@ -1,80 +1,36 @@
-//! The work of a command.
+//! The work of a command, where its session is.
 
 ghost use Rattle.command_words.specs.Seen.{work_of};
 ghost use Rattle.messenger_cli.specs.Counts.{HaveRoom, IsRun};
 ghost use Rattle.messenger_cli.specs.Held.{ports_seen};
 ghost use Rattle.messenger_cli.specs.Performing.{Performs};
 
-use crate::making::play_made;
-use crate::playing::play_script;
+use crate::in_book::perform_in_book;
+use crate::in_folder::perform_in_folder;
 use crate::ports::Ports;
-use command_lines::Listing;
-use command_words::{Ask, Command};
+use command_words::{Command, Where};
 use dr_disk::Disk;
 use dr_ports::{Door, Draws, Link, Sink, Source};
 use endings::Status;
-use relay_command::relay;
-use session_commands::{begin, check, drop_items, say, show, sync, take};
-use session_model::{Items, Which};
-use sntrup761::Sntrup761;
 use std::alloc::Global;
 
 /// Does a command's work, and answers its status.
 // Each command is a function that isn't inlined, so that the room of the one that is done is set
 // alone.
-pub(crate) fn perform<D: Disk, R: Disk, S: Source, O: Sink, L: Link, A: Door, W: Draws>(
+pub(crate) fn perform<D: Disk, R: Disk, B: Disk, S: Source, O: Sink, L: Link, A: Door, W: Draws>(
     alloc: Global,
     command: &Command<'_>,
-    ports: &mut Ports<D, R, S, O, L, A, W>,
+    ports: &mut Ports<D, R, B, S, O, L, A, W>,
 ) -> Status
-    requires { HaveRoom (D.state ports.old.disk) (R.state ports.old.relay_disk) }
-    ensures { IsRun (Performs (work_of command.now).ask (work_of command.now).values)
-        (ports_seen D.state R.state S.at O.at L.port A.port W.at)
+    requires { HaveRoom (D.state ports.old.disk) (R.state ports.old.relay_disk)
+        (B.state ports.old.book) }
+    ensures { IsRun (Performs (work_of command.now).place (work_of command.now).ask
+        (work_of command.now).values)
+        (ports_seen D.state R.state B.state S.at O.at L.port A.port W.at)
         ports.old ports.new result.code }
 {
-    let Ports {
-        disk,
-        relay_disk,
-        source,
-        sink,
-        link,
-        door,
-        draws,
-    } = ports;
-    match command.ask {
-        Ask::Begin(side, format) => begin::<Sntrup761, D, S, O>(
-            alloc, side, format, disk, source, sink,
-        ),
-        Ask::Say => say::<Sntrup761, D, O, W>(
-            alloc,
-            command.value(0).as_bytes(),
-            disk,
-            sink,
-            draws,
-        ),
-        Ask::Take => take::<Sntrup761, D, S, O>(alloc, disk, source, sink),
-        Ask::Inbox => show::<Sntrup761, D, O>(alloc, Listing::Inbox, disk, sink),
-        Ask::Done(n) => {
-            drop_items::<Sntrup761, D, O>(alloc, Which::Oldest(Items::Texts, n), disk, sink)
-        }
-        Ask::Sent(n) => {
-            drop_items::<Sntrup761, D, O>(alloc, Which::Oldest(Items::Packets, n), disk, sink)
-        }
-        Ask::Outbox => show::<Sntrup761, D, O>(alloc, Listing::Outbox, disk, sink),
-        Ask::Awaiting => show::<Sntrup761, D, O>(alloc, Listing::Awaiting, disk, sink),
-        Ask::State => show::<Sntrup761, D, O>(alloc, Listing::State, disk, sink),
-        Ask::Check => check::<Sntrup761, D, O>(alloc, disk, sink),
-        Ask::Duet => play_script(alloc, source, sink),
-        Ask::Sync => sync::<Sntrup761, D, L, O>(alloc, command.value(0), disk, link, sink),
-        Ask::Relay { port, count } => relay(
-            alloc,
-            port,
-            count,
-            command.values_behind(),
-            relay_disk,
-            door,
-            sink,
-        ),
-        Ask::DuetMake { rounds, number } => play_made(alloc, rounds, number, sink),
+    match command.place {
+        Where::Folder => perform_in_folder(alloc, command, ports),
+        Where::Book => perform_in_book(alloc, command, ports),
     }
 }

@@ -2,11 +2,13 @@
 
 /// The ports of a run, each as the last run left it.
 #[derive(Drop)]
-pub struct Ports<D, R, S, O, L, A, W> {
+pub struct Ports<D, R, B, S, O, L, A, W> {
     /// The disk that keeps the session.
     pub disk: D,
     /// The disk that keeps a relay's boxes.
     pub relay_disk: R,
+    /// The disk that keeps a book of sessions.
+    pub book: B,
     /// Where texts come from.
     pub source: S,
     /// Where lines go.

@@ -124,9 +124,24 @@ fn takes_room(rt: &HostRuntime) -> bool {
     is_written(rt, "steps", b"old") && grows_in_steps(rt, &mut disk)
 }
 
+/// Whether a disk of ten bytes with steps of four behind a head of one grows so.
+fn grows_behind_its_head<D: Disk>(rt: &HostRuntime, disk: &mut D) -> bool {
+    grows(rt, disk, 0, 3)
+        && grows(rt, disk, 4, 5)
+        && grows(rt, disk, 5, 9)
+        && grows(rt, disk, 9, 10)
+}
+
+/// Whether that is so of a disk whose file has three bytes before it.
+fn takes_room_behind(rt: &HostRuntime) -> bool {
+    let mut disk = FileDisk::new(rt, "steps", 10, 4, Sharing::InTurn).with_head(1);
+    is_written(rt, "steps", b"old") && grows_behind_its_head(rt, &mut disk)
+}
+
 #[test]
 fn takes_its_room_in_steps(rt: HostRuntime) {
     assert!(rt; takes_room(&rt));
     assert!(rt; holds(&rt, "steps", b"\x07\x07d\0\x07\0\0\0\0\x07"));
+    assert!(rt; takes_room_behind(&rt));
     assert!(rt; fs::remove_file(&rt, "steps").is_ok());
 }

@@ -4,7 +4,7 @@ use crate::answers::{KEY, Row, SESSION, is_answered};
 use crate::running::in_memory;
 use dr_disk::Disk;
 use dr_ports::{MemoryDoor, MemoryLink, MemorySink};
-use messenger_cli::{DISK_SIZE, RELAY_DISK_SIZE, run_arguments};
+use messenger_cli::{BOOK_SIZE, DISK_SIZE, RELAY_DISK_SIZE, run_arguments};
 use std::alloc::{AllocError, Global};
 use std::io;
 use std::io::ErrorKind;
@@ -49,7 +49,10 @@ fn a_failing_call_has_its_status(rt: HostRuntime) -> Result<(), Fail> {
 fn is_asked(alloc: Global, kind: ErrorKind, status: u8, line: &[u8]) -> Result<bool, AllocError> {
     let mut ports = in_memory(alloc, b"", b"")?;
     ports.sink = MemorySink::new(alloc, 64, &[])?;
-    if ports.disk.size() < DISK_SIZE || ports.relay_disk.size() < RELAY_DISK_SIZE {
+    if ports.disk.size() < DISK_SIZE
+        || ports.relay_disk.size() < RELAY_DISK_SIZE
+        || ports.book.size() < BOOK_SIZE
+    {
         return Err(AllocError);
     }
     let ended = run_arguments(alloc, Err(io::Error::from(kind)), &mut ports);

@@ -6,6 +6,8 @@
 #[cfg(test)]
 mod answers;
 #[cfg(test)]
+mod books;
+#[cfg(test)]
 mod disks;
 #[cfg(test)]
 mod faults;

@@ -57,9 +57,16 @@ const SYNCED: [Row<'static>; 7] = [
     ("sync|127.0.0.1:4000", b"", 12, b"peer: Ended at 0\n"),
 ];
 
-/// What the first two syncs begin with: a fetch of the own box.
-const FETCHED: &[u8] =
-    b"\x00\x24\x02\x2270e0f9cd1a5863238d67aecce0c032e5-2\x00\x24\x02\x2270e0f9cd1a5863238d67aecce0c032e5-2";
+/// What the first two syncs begin with: a fetch of the own box, each with counter 1. The tag was made
+/// by another implementation.
+const FETCHED: &[u8] = b"\x00\x4d\x04\x00\x00\x00\x00\x00\x00\x00\x01\
+    \x6d\xc7\xcc\xd3\x33\x23\x3e\xee\x1e\xc1\x03\x50\x5c\xb7\xa4\x2e\
+    \x43\xdf\xe3\x72\x8a\x40\xfb\x3a\x2b\x89\xd9\x78\x4e\x73\xf8\x29\
+    \x02\x2270e0f9cd1a5863238d67aecce0c032e5-2\
+    \x00\x4d\x04\x00\x00\x00\x00\x00\x00\x00\x01\
+    \x6d\xc7\xcc\xd3\x33\x23\x3e\xee\x1e\xc1\x03\x50\x5c\xb7\xa4\x2e\
+    \x43\xdf\xe3\x72\x8a\x40\xfb\x3a\x2b\x89\xd9\x78\x4e\x73\xf8\x29\
+    \x02\x2270e0f9cd1a5863238d67aecce0c032e5-2";
 
 /// Whether the link was connected to `127.0.0.1:4000`, and that connection has ended once all
 /// replies had come.

@@ -3,17 +3,26 @@
 use dr_base::Key32;
 use dr_disk::{Disk, SteadyDisk};
 use dr_ports::{MemoryDoor, MemoryDraws, MemoryLink, MemorySink, MemorySource, Sink, Source};
-use messenger_cli::{DISK_SIZE, Ports, RELAY_DISK_SIZE, Status, run};
+use messenger_cli::{BOOK_SIZE, DISK_SIZE, Ports, RELAY_DISK_SIZE, Status, run};
 use std::alloc::{AllocError, Global};
 
 /// The ports of a run around this disk, this source and this sink. All else is in memory.
-pub type Around<D, S, O> = Ports<D, SteadyDisk, S, O, MemoryLink, MemoryDoor, MemoryDraws>;
+pub type Around<D, S, O> = Ports<
+    D,
+    SteadyDisk,
+    SteadyDisk,
+    S,
+    O,
+    MemoryLink,
+    MemoryDoor,
+    MemoryDraws,
+>;
 
 /// The ports of a run in memory, over disks all of whose calls pass.
 pub type InMemory = Around<SteadyDisk, MemorySource, MemorySink>;
 
-/// Ports around these: a relay's disk of zeros, a link that gives these bytes, a door whose one
-/// connection holds these, and draws of which the first fails.
+/// Ports around these: disks of zeros for a relay and a book, a link that gives these bytes, a door
+/// whose one connection holds these, and draws of which the first fails.
 pub fn ports_around<D: Drop, S: Drop, O: Drop>(
     alloc: Global,
     (disk, source, sink): (D, S, O),
@@ -21,12 +30,14 @@ pub fn ports_around<D: Drop, S: Drop, O: Drop>(
     door: &[u8],
 ) -> Result<Around<D, S, O>, AllocError> {
     let relay_disk = zeros(alloc, RELAY_DISK_SIZE)?;
+    let book = zeros(alloc, BOOK_SIZE)?;
     let link = MemoryLink::new(alloc, link, 4096, &[])?;
     let door = MemoryDoor::new(alloc, door, &[door.len()], 4096, &[], &[])?;
     let draws = MemoryDraws::new(alloc, &[Key32 { bytes: [7; 32] }], &[1])?;
     Ok(Ports {
         disk,
         relay_disk,
+        book,
         source,
         sink,
         link,
@@ -59,7 +70,10 @@ pub fn run_on<D: Disk, S: Source, O: Sink>(
     for word in line.split('|') {
         words.push(String::from_str(alloc, word)?)?;
     }
-    if ports.disk.size() < DISK_SIZE || ports.relay_disk.size() < RELAY_DISK_SIZE {
+    if ports.disk.size() < DISK_SIZE
+        || ports.relay_disk.size() < RELAY_DISK_SIZE
+        || ports.book.size() < BOOK_SIZE
+    {
         return Err(AllocError);
     }
     Ok(run(alloc, words.as_slice(), ports))

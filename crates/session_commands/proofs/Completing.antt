@@ -19,13 +19,15 @@ use Rattle.client.specs.declared.refusals.BeginRefusal.{BeginRefusal}
 use Rattle.client.specs.declared.refusals.BeginRefusal.TheVariants.{Damaged as BeginDamaged, Exists as BeginExists, Memory as BeginMemory, NoPair as BeginNoPair, StoreFault as BeginFault}
 use Rattle.client.specs.declared.refusals.OpenRefusal.{OpenRefusal}
 use Rattle.client.specs.declared.refusals.OpenRefusal.TheVariants.{Damaged as OpenDamaged, Memory as OpenMemory, NoSession as OpenNoSession, StoreFault as OpenFault}
-use Rattle.session_commands.specs.Acting.{Acted, ClientAsk, was_cut, was_done, was_refused, was_undrawn, was_unopened}
+use Rattle.command_lines.specs.Acting.{ClientAsk, was_cut, was_done, was_refused, was_undrawn, was_unopened}
+use Rattle.session_commands.specs.Acting.{Acted, RunsAct, RunsIn}
 use Rattle.session_commands.specs.Beginning.{Began, Begins, was_begun, wasnt_begun}
 use Rattle.session_commands.specs.Checking.{Checked, RunsCheck, had_no_memory, read_failed, was_checked}
 use Rattle.session_commands.specs.Completing.{DidWork, IsAccepted, MayBegin, NoneFailed, ReadsWhole}
-use Rattle.session_commands.specs.InWorlds.{RunsAct, RunsIn, goes_on, is_in_doubt, stays_refused, stays_undrawn, stays_unopened}
+use Rattle.command_lines.specs.InWorlds.{goes_on, is_in_doubt, stays_refused, stays_undrawn, stays_unopened}
 use Rattle.session_commands.specs.Opening.{ending_of_begin, ending_of_open}
-use Rattle.session_commands.specs.Showing.{RunsShow, Shown, was_shown, wasnt_opened}
+use Rattle.command_lines.specs.Showing.{was_shown, wasnt_opened}
+use Rattle.session_commands.specs.Showing.{RunsShow, Shown}
 
 -- no client that can't be opened is refused
 no_refusal : (refusal : OpenRefusal) (reason : Refusal) → ending_of_open refusal ≡ Refused reason → ⊥

@@ -21,9 +21,10 @@ use Rattle.client.specs.Syncing.InWorlds.{course_in}
 use Rattle.client.specs.Syncing.Parties.{world_party}
 use Rattle.client.proofs.Later.{act_later, acted_later, back_acted, front_later, lawful_at}
 use Rattle.client.proofs.Standing.{among}
-use Rattle.session_commands.specs.Acting.{ClientAsk}
+use Rattle.command_lines.specs.Acting.{ClientAsk}
 use Rattle.session_commands.specs.Histories.{cut_known}
-use Rattle.session_commands.specs.InWorlds.{RunsIn, goes_on, is_in_doubt, stays_refused, stays_undrawn, stays_unopened}
+use Rattle.command_lines.specs.InWorlds.{goes_on, is_in_doubt, stays_refused, stays_undrawn, stays_unopened}
+use Rattle.session_commands.specs.Acting.{RunsIn}
 
 -- ---- lawful worlds
 

@@ -1,20 +1,15 @@
-mod Acts
+mod Opened
 mod Beginnings
 mod Completing
 mod SyncCompleting
 mod Quiet
-mod Says
-mod Shows
-mod Standing
-mod Texts
-mod Unopened
+mod Told
 mod Syncs
 mod SyncRuns
 mod Linking
 pub mod Wholeness
-mod KnownWorlds
-mod WholeRuns
-mod Talks
+pub mod KnownWorlds
+pub mod WholeRuns
+pub mod Talks
 mod Talking
 mod Checks
-mod Truly

@@ -26,11 +26,13 @@ use Rattle.client.proofs.Later.{front_later, later_twice, lawful_at}
 use Rattle.client.proofs.Lifted.{ready_stands}
 use Rattle.client.proofs.Standing.{among}
 use Rattle.client.proofs.Syncs.Links.{reaches, step_links}
-use Rattle.session_commands.specs.Acting.{ClientAsk}
+use Rattle.command_lines.specs.Acting.{ClientAsk}
 use Rattle.session_commands.specs.Disks.{IsClientAtRest, RunsOn, StandsForOne}
 use Rattle.session_commands.specs.Histories.{acted_known, cut_in_sync, cut_known, shown_known, synced_known}
-use Rattle.session_commands.specs.InWorlds.{RunsIn, goes_on, is_in_doubt, stays_refused, stays_undrawn, stays_unopened}
-use Rattle.session_commands.specs.Showing.{ShowsIn, shows_nothing, shows_world}
+use Rattle.command_lines.specs.InWorlds.{goes_on, is_in_doubt, stays_refused, stays_undrawn, stays_unopened}
+use Rattle.session_commands.specs.Acting.{RunsIn}
+use Rattle.command_lines.specs.Showing.{shows_nothing, shows_world}
+use Rattle.session_commands.specs.Showing.{ShowsIn}
 use Rattle.session_commands.specs.Syncing.{StandsForCourse, SyncRunsIn, broken_of}
 use Rattle.session_commands.proofs.Syncs.{parted}
 

@@ -19,7 +19,7 @@ use Rattle.relay_wire.specs.Replies.{IsLawfulReplied, Replied}
 use Rattle.session_model.specs.Clients.{Client}
 use Rattle.sync_model.specs.Carried.{replied_bytes, request_bytes}
 use Rattle.sync_model.specs.Courses.{course_of, made_requests}
-use Rattle.sync_model.specs.Moves.{Ending as CourseEnding, box_is_full, ended, inbox_full, no_such_box, wrong}
+use Rattle.sync_model.specs.Moves.{Ending as CourseEnding, box_is_full, denied_by, ended, inbox_full, no_such_box, wrong}
 use Rattle.sync_model.specs.Parties.{Party}
 use Rattle.sync_model.specs.declared.more.More.{More}
 use Rattle.sync_model.proofs.Pending.{IsPending, not_cut, not_unread}
@@ -29,7 +29,7 @@ use Rattle.client.specs.Syncing.Parties.{client_party}
 use Rattle.client.specs.Syncing.Rounds.{sync_fault_of}
 use Rattle.client.specs.Syncing.Syncs.{IsNoReply, IsUnheard, is_cut, is_unread}
 use Rattle.client.specs.declared.syncing.faults.SyncFault.{SyncFault}
-use Rattle.client.specs.declared.syncing.faults.SyncRefusal.TheVariants.{BoxFull as SyncBoxFull, InboxFull as SyncInboxFull, Unknown as SyncUnknown}
+use Rattle.client.specs.declared.syncing.faults.SyncRefusal.TheVariants.{BoxFull as SyncBoxFull, Denied as SyncDenied, InboxFull as SyncInboxFull, Unknown as SyncUnknown}
 use Rattle.client.specs.declared.syncing.faults.SyncFault.TheVariants.{Closed as SyncClosed, Link as SyncLink, Peer as SyncPeer, Refused as SyncRefused, Store as SyncStore, Write as SyncWrite}
 use Rattle.session_commands.specs.Completing.{DidWork, NoneFailed, ReadsWhole}
 use Rattle.session_commands.specs.SyncCompleting.{AnswersClient, AnswersEach, EndsCourse, IsOneReply, NoneFailedOver, SyncedToEnd, ending_of_course}
@@ -76,6 +76,7 @@ same_ending (ended which) fault h = absurd (cc)
 same_ending inbox_full fault h = ap ending_of_fault (one_fault (SyncRefused SyncInboxFull) fault h)
 same_ending box_is_full fault h = ap ending_of_fault (one_fault (SyncRefused SyncBoxFull) fault h)
 same_ending no_such_box fault h = ap ending_of_fault (one_fault (SyncRefused SyncUnknown) fault h)
+same_ending (denied_by rule) fault h = ap ending_of_fault (one_fault (SyncRefused (SyncDenied rule)) fault h)
 same_ending wrong fault h = ap ending_of_fault (one_fault (SyncPeer 2 Wrong) fault h)
 
 ends_course : (p : Party Client) (kept : Client) (start now : DiskState) (opened last : Port) (replies : List Replied) (how : CourseEnding)

@@ -17,7 +17,9 @@ use Rattle.sync_model.specs.Courses.{course_of}
 use Rattle.sync_model.specs.Moves.{Ending}
 use Rattle.sync_model.specs.Parties.{Party}
 use Rattle.sync_model.specs.declared.more.More.{More}
-use Rattle.client.specs.Clients.{ClientNow, IsReady}
+use Rattle.slot_store.proofs.Outside.{twice_outside}
+use Rattle.client.specs.Cells.{client_cell}
+use Rattle.client.specs.Clients.{ClientNow, IsReady, client_area}
 use Rattle.client.specs.InWorlds.{IsIn, StandsFor}
 use Rattle.client.specs.Opening.{IsAsRead, IsEntryOrAsRead, OpensIn}
 use Rattle.client.specs.Syncing.InWorlds.{IsReachedIn, LeadsTo, SyncsIn}
@@ -28,8 +30,8 @@ use Rattle.client.specs.declared.syncing.faults.SyncFault.{SyncFault}
 use Rattle.client.specs.declared.syncing.faults.SyncFault.TheVariants.{Closed, Link, Peer, Refused, Store, Write}
 use Rattle.session_commands.specs.Disks.{IsClientAtRest}
 use Rattle.session_commands.specs.Syncing.{CameToEnd, IsStored, IsSyncLeft, LeavesCourse, RestsIn, StandsForCourse, SyncEnds, SyncRunsIn, is_as_read, is_of_course}
-use Rattle.session_commands.proofs.Standing.{as_read_sound, both_left, left_sound}
-use Rattle.session_commands.proofs.Truly.{same_told}
+use Rattle.command_lines.proofs.Standing.{as_read_sound, both_left, left_sound}
+use Rattle.command_lines.proofs.Truly.{same_told}
 
 -- ---- after an opening of the client
 
@@ -87,7 +89,7 @@ module _ (k : Mechanism) (start mid now : DiskState) (lawful : IsLawful now) whe
         → IsSyncLeft k p kept replies start c
     of_course p kept replies c r =
         is_of_course r.front r.back r.split
-        (record { has = r.holds; undamaged = r.undamaged; sound = left_sound k start mid c alike r.undamaged r.outside })
+        (record { has = r.holds; undamaged = r.undamaged; sound = left_sound client_cell client_cell (twice_outside client_area) k start mid c alike r.undamaged r.outside })
 
     in_course : (side : Side) (w : World) (replies : List Replied) (c : List ℕ) → IsReachedIn k [] side w replies mid c
         → StandsForCourse k side w replies start c
@@ -96,7 +98,7 @@ module _ (k : Mechanism) (start mid now : DiskState) (lawful : IsLawful now) whe
       back = r.back;
       split = r.split;
       stands = r.stands;
-      sound = left_sound k start mid c alike r.undamaged r.outside;
+      sound = left_sound client_cell client_cell (twice_outside client_area) k start mid c alike r.undamaged r.outside;
     }
 
   pub leaves_course : (p : Party Client) (kept : Client) (replies : List Replied) → Span start mid (IsEntryOrAsRead k start)
@@ -119,7 +121,7 @@ module _ (k : Mechanism) (start mid now : DiskState) (lawful : IsLawful now) whe
       back = replies;
       split = refl;
       stands = stands;
-      sound = as_read_sound k start c as_read;
+      sound = as_read_sound client_cell k start c as_read;
     }
 
     module _ (client after : ClientNow) (before wrote : SinkState) (p : Party Client) (from to : Port) where
@@ -160,5 +162,5 @@ module _ (k : Mechanism) (start mid now : DiskState) (lawful : IsLawful now) whe
             (syncs.passed.last s (lawful.seen_now s told));
         rests = rests_in result ends syncs.leads;
         arrived = λ s told.
-            ⊎_elim (λ was. same_told k w side s (opens.client.1 s was)) (λ truly. truly) (syncs.arrived.stored.last s (lawful.seen_now s told));
+            ⊎_elim (λ was. same_told client_cell k w side s (opens.client.1 s was)) (λ truly. truly) (syncs.arrived.stored.last s (lawful.seen_now s told));
       }

@@ -1,6 +1,6 @@
 -- What a sync wrote, and the last line after it.
 use Rattle.std.proofs.Common.{Bool, Err, List, None, Ok, Result, Some, [], ap, arith, drop, false, inl, inr, length, refl, sym, take, true, ℕ, ⊎_elim, ◌+◌, ◌++◌, ◌-◌, ◌<◌, ◌^◌, ◌≤◌, ◌∙◌, ◌∷◌, ◌≡◌, append-nil}
-use Rattle.std.specs.Prelude.{IfErr, if◌then◌else◌, nat_le, ◌&&◌}
+use Rattle.std.specs.Prelude.{option_map, IfErr, if◌then◌else◌, nat_le, ◌&&◌}
 use Rattle.std.proofs.lemmas.Bool.Decides.{nat_tests}
 use Rattle.std.proofs.lemmas.List.{drop_at, length_push, take_at}
 use Rattle.dr_disk.specs.Spans.{IsQuiet}
@@ -22,8 +22,9 @@ use Rattle.relay_wire.specs.Requests.{Asked}
 use Rattle.relay_wire.specs.declared.limits.TheConstants.{BODY_LIMIT}
 use Rattle.relay_wire.specs.declared.reply.BadReply.TheVariants.{Frame as NoFrame, Kind as NoKind, Size as NoSize}
 use Rattle.session_model.specs.Clients.{Client}
-use Rattle.sync_model.specs.Courses.{all_lines, course_of, last_line}
-use Rattle.sync_model.specs.Moves.{Ending as CourseEnding, Wait, acking, asked_in, box_is_full, ended, fetching, inbox_full, no_such_box, over, posting, wrong}
+use Rattle.sync_model.specs.Tokens.{Tokens, tagged}
+use Rattle.sync_model.specs.Courses.{asked_now, all_lines, course_of, last_line}
+use Rattle.sync_model.specs.Moves.{Ending as CourseEnding, Wait, acking, asked_in, box_is_full, denied_by, ended, fetching, inbox_full, no_such_box, over, posting, wrong}
 use Rattle.sync_model.specs.Parties.{Party}
 use Rattle.sync_model.specs.declared.more.More.{More}
 use Rattle.client.specs.Syncing.Moments.{Moment, Wrote}
@@ -31,7 +32,7 @@ use Rattle.client.specs.Syncing.Rounds.{sync_fault_of}
 use Rattle.client.specs.Syncing.Syncs.{EndsSync, IsNoReply, Syncs, is_cut, is_unread}
 use Rattle.client.specs.declared.syncing.faults.SyncFault.{SyncFault}
 use Rattle.client.specs.declared.syncing.faults.SyncFault.TheVariants.{Closed, Link, Peer, Refused, Store, Write}
-use Rattle.client.specs.declared.syncing.faults.SyncRefusal.TheVariants.{BoxFull, InboxFull, Unknown}
+use Rattle.client.specs.declared.syncing.faults.SyncRefusal.TheVariants.{BoxFull, Denied, InboxFull, Unknown}
 use Rattle.session_commands.specs.Syncing.{HasWritten, HasPrintedPlace, broken_of, ending_of_fault, lines_of_sync, made_of}
 
 -- ---- what was written
@@ -47,17 +48,17 @@ parted replies before last split =
 
 module _ (p : Party Client) where
   -- while a reply is waited for there is no last line
-  no_line : (s : Client) (wait : Wait) (asked : Asked) → asked_in p s wait ≡ Some asked → last_line p wait ≡ []
-  no_line s (fetching n) asked waits = refl
-  no_line s (acking n number) asked waits = refl
-  no_line s (posting which) asked waits = refl
-  no_line s (over ending) asked waits = absurd (let e : None ≡ Some asked = waits in cc)
+  no_line : (tokens : Tokens) (s : Client) (wait : Wait) (asked : Asked) → option_map (tagged p.keys tokens) (asked_in p s wait) ≡ Some asked → last_line p wait ≡ []
+  no_line tokens s (fetching n) asked waits = refl
+  no_line tokens s (acking n number) asked waits = refl
+  no_line tokens s (posting which) asked waits = refl
+  no_line tokens s (over ending) asked waits = absurd (let e : None ≡ Some asked = waits in cc)
 
-  still_lines : (kept : Client) (replies : List Replied) (asked : Asked) → asked_in p (course_of p kept replies).state (course_of p kept replies).wait ≡ Some asked
+  still_lines : (kept : Client) (replies : List Replied) (asked : Asked) → asked_now p (course_of p kept replies) ≡ Some asked
       → (course_of p kept replies).lines ≡ all_lines p (course_of p kept replies)
   still_lines kept replies asked waits =
       sym (append-nil (course_of p kept replies).lines)
-      ∙ ap (λ (l : List ℕ). (course_of p kept replies).lines ++ l) (sym (no_line (course_of p kept replies).state (course_of p kept replies).wait asked waits))
+      ∙ ap (λ (l : List ℕ). (course_of p kept replies).lines ++ l) (sym (no_line (course_of p kept replies).tokens (course_of p kept replies).state (course_of p kept replies).wait asked waits))
 
   wrote_so : (lines : List ℕ) (other : List ℕ) (a b : Moment) → lines ≡ other → Wrote lines a b → (b.sink.taken ≡ appended a.sink.taken other) × (b.sink.faults ≡ a.sink.faults)
   wrote_so lines other a b is wrote = (wrote.bytes_are ∙ ap (appended a.sink.taken) is, wrote.unfailing)
@@ -100,6 +101,7 @@ near_end (ended which) at what is = absurd (let e : None ≡ Some (Peer at what)
 near_end inbox_full at what is = absurd (let e : Some (Refused InboxFull) ≡ Some (Peer at what) = is in cc)
 near_end box_is_full at what is = absurd (let e : Some (Refused BoxFull) ≡ Some (Peer at what) = is in cc)
 near_end no_such_box at what is = absurd (let e : Some (Refused Unknown) ≡ Some (Peer at what) = is in cc)
+near_end (denied_by rule) at what is = absurd (let e : Some (Refused (Denied rule)) ≡ Some (Peer at what) = is in cc)
 near_end wrong at what is = let e : Some (Peer 2 Wrong) ≡ Some (Peer at what) = is in let f : 2 ≡ at = cc in omega (arith, f)
 
 pub near : (p : Party Client) (replies : List Replied) (a b : Moment) (start now : Port) (fault : SyncFault) → EndsSync p replies a b start now (Err fault) → HasPrintedPlace fault
@@ -132,6 +134,7 @@ fault_code (Closed call) not e = omega (arith, e)
 fault_code Link not e = omega (arith, e)
 fault_code (Peer at what) not e = omega (arith, e)
 fault_code (Refused InboxFull) not e = omega (arith, e)
+fault_code (Refused (Denied rule)) not e = omega (arith, e)
 fault_code (Refused BoxFull) not e = omega (arith, e)
 fault_code (Refused Unknown) not e = omega (arith, e)
 fault_code (Store call) not e = omega (arith, e)

@@ -1,5 +1,5 @@
 -- First and Second talk, with a crash in a take of First's: First's moments are a run.
-use Rattle.std.proofs.Common.{List, Some, [], ap, arith, inl, refl, subst, suc, sym, ℕ, ◌+◌, ◌∙◌, ◌∷◌, ◌≡◌}
+use Rattle.std.proofs.Common.{List, Some, [], ap, arith, inl, inr, refl, subst, suc, sym, ℕ, ◌+◌, ◌∙◌, ◌∷◌, ◌≡◌}
 use Rattle.std.specs.Prelude.{slice_get, slice_index_or}
 use Rattle.boxes.specs.Posts.{Post}
 use Rattle.dr_base.specs.declared.position.Side.TheVariants.{First, Second}
@@ -15,15 +15,15 @@ use Rattle.kem_laws.specs.Mechanism.{Mechanism}
 use Rattle.client.specs.Cells.{client_cell}
 use Rattle.client.specs.Grounds.{Grounds}
 use Rattle.client.specs.InWorlds.{StandsFor}
-use Rattle.client.specs.Moments.{IsAmongKnown, Known, settled_in}
+use Rattle.client.specs.Moments.{HaveMoved, IsAmongKnown, Known, settled_in}
 use Rattle.client.specs.Opening.{ReadsAsSide}
 use Rattle.client.proofs.Standing.{stands}
-use Rattle.session_commands.specs.Acting.{ClientAsk}
-use Rattle.session_commands.specs.Asking.{asked_say, asked_take}
+use Rattle.command_lines.specs.Acting.{ClientAsk}
+use Rattle.command_lines.specs.Asking.{asked_say, asked_take}
 use Rattle.session_commands.specs.Histories.{acted_known, cut_known}
-use Rattle.session_commands.specs.InWorlds.{RunsIn}
+use Rattle.session_commands.specs.Acting.{RunsIn}
 use Rattle.session_commands.specs.Talks.{HaveTalked, IsTalk}
-use Rattle.session_commands.specs.WholeRuns.{AreRun, Ran, acted, peer_went_on, says, takes, was_cut_acting}
+use Rattle.session_commands.specs.WholeRuns.{AreRun, Passed, acted, says, takes, was_cut_acting}
 use Rattle.session_commands.proofs.KnownWorlds.{cut_keeps}
 use Rattle.session_commands.proofs.Linking.{reads_one}
 use Rattle.session_commands.proofs.Talks.{Chain, IsDone, chained, done_in, honest, kept_there, peer_moved, reads_ahead}
@@ -39,7 +39,7 @@ module _ {D E V : Type 0} (state : D → DiskState) (sound : (d : D) → IsLawfu
     (second : ReadsAsSide k w Second (peers hears))
     (rests : Always (StandsFor k w First) (state start)) where
   abbrev Runs : D → D → Known → Known → Type 0
-  Runs = Ran state draws k First
+  Runs = Passed state draws k First
 
   -- ---- First says a text
 
@@ -126,23 +126,24 @@ module _ {D E V : Type 0} (state : D → DiskState) (sound : (d : D) → IsLawfu
   said_ran : Runs start said (settled_in w) (settled_in w1)
   said_ran =
       subst (Runs start said (settled_in w)) (asked.settles (settled_in w))
-      (acted (settled_in w) w (inl refl) (says talk.asks.text talk.asks.source talk.asks.left) Done
-      talk.asks.lines asks_runs)
+      (inl (acted (settled_in w) w (inl refl)
+      (says talk.asks.text talk.asks.source talk.asks.left) Done talk.asks.lines asks_runs))
+
+  -- Second went on
+  went : (v next : World) → HaveMoved k First (settled_in v) (settled_in next)
+      → Runs said said (settled_in v) (settled_in next)
+  went v next moves = inr (record { moves = moves; alone = λ c left. left })
 
   heard_ran : Runs said said (settled_in w1) (settled_in w2)
-  heard_ran =
-      peer_went_on (settled_in w1) (settled_in w2)
-      (peer_moved k grounds w1 hearing.act asked.lawful hearing.fair) (λ c left. left)
+  heard_ran = went w1 w2 (peer_moved k grounds w1 hearing.act asked.lawful hearing.fair)
 
   answered_ran : Runs said said (settled_in w2) (settled_in w3)
-  answered_ran =
-      peer_went_on (settled_in w2) (settled_in w3)
-      (peer_moved k grounds w2 answered.act hearing.lawful answered.fair) (λ c left. left)
+  answered_ran = went w2 w3 (peer_moved k grounds w2 answered.act hearing.lawful answered.fair)
 
   cut_ran : Runs said crashed (settled_in w3) known4
   cut_ran =
-      was_cut_acting (settled_in w3) w3 (inl refl) (takes answer.packet) cut talk.ending talk.shown
-      takes_runs talk.crashes
+      inl (was_cut_acting (settled_in w3) w3 (inl refl) (takes answer.packet) cut talk.ending
+      talk.shown takes_runs talk.crashes)
 
   -- moments that run from the first on
   are_run : (xs : List D) (ks : List Known) → Chain Runs (start ∷ xs) (settled_in w ∷ ks)
@@ -185,7 +186,8 @@ module _ {D E V : Type 0} (state : D → DiskState) (sound : (d : D) → IsLawfu
       talk.shown answered.lawful takes_runs found.0 found.1)))
 
   again_ran : Runs crashed took known4 (acted_known again_runs known4)
-  again_ran = acted known4 found.0 found.1 (takes answer.packet) talk.last talk.last_shown again_runs
+  again_ran =
+      inl (acted known4 found.0 found.1 (takes answer.packet) talk.last talk.last_shown again_runs)
 
   pub have_talked : HaveTalked state draws k w start said crashed took answer
   have_talked =

@@ -33,9 +33,10 @@ use Rattle.client.specs.declared.refusals.OpenRefusal.TheVariants.{Damaged as Op
 use Rattle.client.proofs.Later.{act_later}
 use Rattle.client.proofs.Lifted.{ready_stands}
 use Rattle.client.proofs.Standing.{among}
-use Rattle.session_commands.specs.Acting.{ClientAsk}
+use Rattle.command_lines.specs.Acting.{ClientAsk}
 use Rattle.session_commands.specs.Histories.{acted_known}
-use Rattle.session_commands.specs.InWorlds.{RunsIn, goes_on, is_in_doubt, stays_refused, stays_undrawn, stays_unopened}
+use Rattle.command_lines.specs.InWorlds.{goes_on, is_in_doubt, stays_refused, stays_undrawn, stays_unopened}
+use Rattle.session_commands.specs.Acting.{RunsIn}
 use Rattle.session_commands.specs.Opening.{ending_of_open}
 use Rattle.session_commands.specs.Talks.{IsPostedOn}
 
@@ -73,7 +74,7 @@ pub record IsDone (k : Mechanism) (w : World) (side : Side) (start now : DiskSta
   pub reads : ReadsAsSide k w side start → ReadsAsSide k (act_in k w side act).next side now
   pub settles : (known : Known) → after known ≡ settled_in (act_in k w side act).next
 
-unopened_undone : (refusal : OpenRefusal) → ending_of_open refusal ≡ Done → ⊥
+pub unopened_undone : (refusal : OpenRefusal) → ending_of_open refusal ≡ Done → ⊥
 unopened_undone OpenMemory is = absurd (let e : NoMemory ≡ Done = is in cc)
 unopened_undone (OpenFault call) is = absurd (let e : DiskFault ≡ Done = is in cc)
 unopened_undone (OpenDamaged slot at) is = absurd (let e : Damaged slot at ≡ Done = is in cc)

@@ -1,6 +1,6 @@
 -- A run of commands is a run of linked moments, its worlds are lawful, and what is read without
 -- damage stays so.
-use Rattle.std.proofs.Common.{List, Some, ap, arith, inl, subst, suc, sym, zero, ℕ, ◌+◌, ◌∙◌, ◌≡◌}
+use Rattle.std.proofs.Common.{List, Some, ap, arith, inl, inr, subst, suc, sym, zero, ℕ, ◌+◌, ◌∙◌, ◌≡◌}
 use Rattle.std.specs.Prelude.{slice_get}
 use Rattle.std.proofs.lemmas.List.Elements.{All-nil}
 use Rattle.dr_base.specs.declared.position.Side.{Side}
@@ -18,12 +18,14 @@ use Rattle.client.specs.Clients.{client_area}
 use Rattle.client.specs.Grounds.{Grounds}
 use Rattle.client.specs.Moments.{AreLinked, IsAmongKnown, Known, Link, was_left, was_moved}
 use Rattle.client.proofs.Standing.{get_before, stands}
-use Rattle.session_commands.specs.Acting.{ClientAsk}
+use Rattle.command_lines.specs.Acting.{ClientAsk}
 use Rattle.session_commands.specs.Completing.{ReadsWhole}
 use Rattle.session_commands.specs.Disks.{RunsOn}
-use Rattle.session_commands.specs.InWorlds.{RunsIn, goes_on, is_in_doubt, stays_refused, stays_undrawn, stays_unopened}
-use Rattle.session_commands.specs.Showing.{ShowsIn, shows_nothing, shows_world}
-use Rattle.session_commands.specs.WholeRuns.{AreRun, Ran, acted, asked_by, peer_went_on, showed, stayed, synced, was_cut_acting, was_cut_showing, was_cut_staying, was_cut_syncing, was_left_alone}
+use Rattle.command_lines.specs.InWorlds.{goes_on, is_in_doubt, stays_refused, stays_undrawn, stays_unopened}
+use Rattle.session_commands.specs.Acting.{RunsIn}
+use Rattle.command_lines.specs.Showing.{shows_nothing, shows_world}
+use Rattle.session_commands.specs.Showing.{ShowsIn}
+use Rattle.session_commands.specs.WholeRuns.{AreRun, Passed, Ran, acted, asked_by, showed, stayed, synced, was_cut_acting, was_cut_showing, was_cut_staying, was_cut_syncing, was_left_alone}
 use Rattle.session_commands.proofs.KnownWorlds.{AreLawful, link_lawful, one_lawful}
 use Rattle.session_commands.proofs.Linking.{acts_cut, acts_link, reads_one, shows_link, stays_cut, stays_link, syncs_cut, syncs_link}
 use Rattle.session_commands.proofs.Wholeness.{reads_whole, runs_whole, syncs_whole}
@@ -54,7 +56,7 @@ module _ {X W : Type 0} (state : X → DiskState) (sound : (x : X) → IsLawful 
   -- ---- from one moment to the next
 
   module _ (a b : X) where
-    ran_link : (grounds : Grounds k) (before after : Known) → AreLawful k before
+    pub ran_link : (grounds : Grounds k) (before after : Known) → AreLawful k before
         → Ran state draws k side a b before after
         → Link k side (state a) (state b) before after
     ran_link grounds before after are (acted known w which command ending lines runs) =
@@ -84,8 +86,13 @@ module _ {X W : Type 0} (state : X → DiskState) (sound : (x : X) → IsLawful 
         stays_cut k side known w which (state a) (state now) (state b) (sound a) leaves on
     ran_link grounds before after are (was_left_alone known alone) =
         was_left known (λ c left. inl (alone c left))
-    ran_link grounds before after are (peer_went_on known moved have alone) =
-        was_moved known moved have (λ c left. inl (alone c left))
+
+    passed_link : (grounds : Grounds k) (before after : Known) → AreLawful k before
+        → Passed state draws k side a b before after
+        → Link k side (state a) (state b) before after
+    passed_link grounds before after are (inl ran) = ran_link grounds before after are ran
+    passed_link grounds before after are (inr went) =
+        was_moved before after went.moves (λ c left. inl (went.alone c left))
 
     ran_whole : (before after : Known) → Ran state draws k side a b before after
         → Always (IsUndamaged client_area) (state a)
@@ -118,15 +125,19 @@ module _ {X W : Type 0} (state : X → DiskState) (sound : (x : X) → IsLawful 
     ran_whole before after (was_cut_staying known w which now on leaves) whole c left =
         runs_whole (state a) (state now) (sound a) whole k side w w on c (leaves c left)
     ran_whole before after (was_left_alone known alone) whole c left = whole c (alone c left)
-    ran_whole before after (peer_went_on known moved have alone) whole c left =
-        whole c (alone c left)
+
+    passed_whole : (before after : Known) → Passed state draws k side a b before after
+        → Always (IsUndamaged client_area) (state a)
+        → Always (IsUndamaged client_area) (state b)
+    passed_whole before after (inl ran) whole c left = ran_whole before after ran whole c left
+    passed_whole before after (inr went) whole c left = whole c (went.alone c left)
 
   -- ---- over all moments
 
   module _ (xs : List X) (first : World) (known : ℕ → Known)
       (run : AreRun state draws xs k side first known) where
     ran_at : (n : ℕ) (b : X) → slice_get xs (suc n) ≡ Some b
-        → (a : X) × (slice_get xs n ≡ Some a) × Ran state draws k side a b (known n)
+        → (a : X) × (slice_get xs n ≡ Some a) × Passed state draws k side a b (known n)
         (known (suc n))
     ran_at n b is =
         let before = get_before xs n b is in
@@ -134,7 +145,7 @@ module _ {X W : Type 0} (state : X → DiskState) (sound : (x : X) → IsLawful 
           before.0,
           before.1,
           subst
-              (λ m. Ran state draws k side before.0 b (known n) (known m)) step
+              (λ m. Passed state draws k side before.0 b (known n) (known m)) step
               (run.ran n before.0 b before.1 (ap (slice_get xs) step ∙ is)),
         )
 
@@ -144,7 +155,7 @@ module _ {X W : Type 0} (state : X → DiskState) (sound : (x : X) → IsLawful 
     all_whole whole zero a is = whole a is
     all_whole whole (suc n) b is =
         let before = ran_at n b is in
-        ran_whole before.0 b (known n) (known (suc n)) before.2
+        passed_whole before.0 b (known n) (known (suc n)) before.2
         (all_whole whole n before.0 before.1)
 
     module _ (grounds : Grounds k) (lawful : IsLawfulWorld k first) where
@@ -155,13 +166,13 @@ module _ {X W : Type 0} (state : X → DiskState) (sound : (x : X) → IsLawful 
           let before = ran_at n b is in
           let are = all_lawful n before.0 before.1 in
           link_lawful k side (state before.0) (state b) (known n) (known (suc n))
-          (ran_link before.0 b grounds (known n) (known (suc n)) are before.2) are
+          (passed_link before.0 b grounds (known n) (known (suc n)) are before.2) are
 
       pub all_linked : AreLinked state xs k side first known
       all_linked = record {
         begins = run.begins;
         stands = run.stands;
-        links = λ n a b here next. ran_link a b grounds (known n) (known (n + 1))
+        links = λ n a b here next. passed_link a b grounds (known n) (known (n + 1))
             (all_lawful n a here) (run.ran n a b here next);
       }
 

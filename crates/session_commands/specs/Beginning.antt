@@ -21,10 +21,10 @@ use Rattle.client.specs.Opening.{IsReadAs, ReadsAsSide}
 use Rattle.client.specs.declared.begin.Begin.{Begin}
 use Rattle.client.specs.declared.refusals.BeginRefusal.{BeginRefusal}
 use Rattle.session_commands.specs.Disks.{IsClientAtRest, RunsOn}
-use Rattle.session_commands.specs.Inputs.{IsInput, IsNoInput, key_in_hex}
+use Rattle.command_lines.specs.Inputs.{IsInput, IsNoInput, key_in_hex}
 use Rattle.command_lines.specs.Lines.{session_line}
 use Rattle.session_commands.specs.Opening.{ending_of_begin}
-use Rattle.session_commands.specs.declared.input.TheConstants.{KEY_TEXT_LIMIT}
+use Rattle.command_lines.specs.declared.input.TheConstants.{KEY_TEXT_LIMIT}
 
 -- the disk is at rest for a side of a lawful world
 pub record RestsIn (k : Mechanism) (w : World) (side : Side) (disk : DiskState) : Type 0 where

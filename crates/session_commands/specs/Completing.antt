@@ -20,7 +20,7 @@ use Rattle.client.specs.Beginning.{HasPair, HoldsRecord}
 use Rattle.client.specs.Opening.{IsReadAs, ReadsAsSide}
 use Rattle.client.specs.declared.begin.Begin.{Begin}
 use Rattle.slot_store.specs.Reading.{no_content}
-use Rattle.session_commands.specs.Acting.{ClientAsk}
+use Rattle.command_lines.specs.Acting.{ClientAsk}
 
 abbrev pub DidWork : Ending → Type 0
 DidWork ending = (ending ≡ Done) ⊎ (ending ≡ NoMemory)

@@ -15,9 +15,11 @@ use Rattle.client.specs.Syncing.InWorlds.{course_in}
 use Rattle.client.specs.Syncing.Parties.{world_party}
 use Rattle.client.specs.declared.syncing.faults.SyncFault.{SyncFault}
 use Rattle.client.specs.declared.syncing.faults.SyncFault.TheVariants.{Store}
-use Rattle.session_commands.specs.Acting.{ClientAsk}
-use Rattle.session_commands.specs.InWorlds.{RunsIn, goes_on, is_in_doubt, stays_refused, stays_undrawn, stays_unopened}
-use Rattle.session_commands.specs.Showing.{ShowsIn, shows_nothing, shows_world}
+use Rattle.command_lines.specs.Acting.{ClientAsk}
+use Rattle.command_lines.specs.InWorlds.{goes_on, is_in_doubt, stays_refused, stays_undrawn, stays_unopened}
+use Rattle.session_commands.specs.Acting.{RunsIn}
+use Rattle.command_lines.specs.Showing.{shows_nothing, shows_world}
+use Rattle.session_commands.specs.Showing.{ShowsIn}
 use Rattle.session_commands.specs.Syncing.{broken_of, made_of}
 
 -- after a command that lets the client act once, in the world that it read: settled by all but a failing call on the disk

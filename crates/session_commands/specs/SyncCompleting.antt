@@ -6,7 +6,7 @@ use Rattle.dr_disk.specs.State.{DiskState}
 use Rattle.dr_ports.specs.Wires.{Port, Told}
 use Rattle.dr_ports.specs.declared.pipe.Part.{Part}
 use Rattle.endings.specs.declared.ending.Ending.{Ending}
-use Rattle.endings.specs.declared.ending.Ending.TheVariants.{BoxFull, Done, NoBox, Peer, Refused}
+use Rattle.endings.specs.declared.ending.Ending.TheVariants.{BoxFull, Denied, Done, NoBox, Peer, Refused}
 use Rattle.kem_laws.specs.Mechanism.{Mechanism}
 use Rattle.relay_pipe.specs.declared.faults.PeerKind.TheVariants.{Wrong}
 use Rattle.relay_wire.specs.Framed.{reply_text}
@@ -15,8 +15,8 @@ use Rattle.relay_wire.specs.Requests.{Asked}
 use Rattle.session_model.specs.Clients.{Client}
 use Rattle.session_model.specs.declared.answer.Refusal.TheVariants.{InboxFull}
 use Rattle.sync_model.specs.Carried.{replied_bytes, request_bytes}
-use Rattle.sync_model.specs.Courses.{course_of, made_requests}
-use Rattle.sync_model.specs.Moves.{Ending as CourseEnding, asked_in, box_is_full, ended, inbox_full, no_such_box, wrong}
+use Rattle.sync_model.specs.Courses.{asked_now, course_of, made_requests}
+use Rattle.sync_model.specs.Moves.{Ending as CourseEnding, box_is_full, denied_by, ended, inbox_full, no_such_box, wrong}
 use Rattle.sync_model.specs.Parties.{Party}
 use Rattle.client.specs.Syncing.Parties.{client_party}
 use Rattle.session_commands.specs.Disks.{ReadsAsKept}
@@ -35,7 +35,7 @@ pub record AnswersEach (p : Party Client) (kept : Client) (link : Port) : Type 0
   pub told : link.told ≡ Some at
   pub answers : (replies : List Replied) (asked : Asked) (rest : List ℕ)
       → AllByRecursion IsLawfulReplied replies
-      → asked_in p (course_of p kept replies).state (course_of p kept replies).wait ≡ Some asked
+      → asked_now p (course_of p kept replies) ≡ Some asked
       → at.now.gives (at.now.sent ++ request_bytes (made_requests p (course_of p kept replies)))
       ≡ at.now.received ++ (replied_bytes replies ++ rest)
       → IsOneReply rest
@@ -56,6 +56,7 @@ ending_of_course (ended which) = Done
 ending_of_course inbox_full = Refused InboxFull
 ending_of_course box_is_full = BoxFull
 ending_of_course no_such_box = NoBox
+ending_of_course (denied_by rule) = Denied rule
 ending_of_course wrong = Peer Wrong 2
 
 -- The course of the replies that were read came to its end: all is at rest for what it keeps, and

@@ -15,7 +15,7 @@ use Rattle.dr_ports.specs.Wires.{Port, connected, hung_up}
 use Rattle.dr_ports.specs.Writing.{TookBeginning}
 use Rattle.dr_ports.specs.declared.pipe.Part.TheVariants.{Flow, Gate}
 use Rattle.endings.specs.declared.ending.Ending.{Ending}
-use Rattle.endings.specs.declared.ending.Ending.TheVariants.{BoxFull, DiskFault, Done, LinkFault, NoBox, Peer, Refused}
+use Rattle.endings.specs.declared.ending.Ending.TheVariants.{BoxFull, Denied, DiskFault, Done, LinkFault, NoBox, Peer, Refused}
 use Rattle.kem_laws.specs.Mechanism.{Mechanism}
 use Rattle.relay_pipe.specs.Asking.{fault_at}
 use Rattle.relay_wire.specs.Replies.{IsLawfulReplied, Replied}
@@ -39,7 +39,7 @@ use Rattle.client.specs.Syncing.Transfers.{Transfers}
 use Rattle.client.specs.declared.refusals.OpenRefusal.{OpenRefusal}
 use Rattle.client.specs.declared.syncing.faults.SyncFault.{SyncFault}
 use Rattle.client.specs.declared.syncing.faults.SyncFault.TheVariants.{Closed as SyncClosed, Link as SyncLink, Peer as SyncPeer, Refused as SyncRefused, Store as SyncStore, Write as SyncWrite}
-use Rattle.client.specs.declared.syncing.faults.SyncRefusal.TheVariants.{BoxFull as SyncBoxFull, InboxFull as SyncInboxFull, Unknown as SyncUnknown}
+use Rattle.client.specs.declared.syncing.faults.SyncRefusal.TheVariants.{BoxFull as SyncBoxFull, Denied as SyncDenied, InboxFull as SyncInboxFull, Unknown as SyncUnknown}
 use Rattle.session_commands.specs.Disks.{HasRecordUnharmed, IsClientAtRest, ReadsAsKept, StaysSound, LeavesAtRest, LeavesAsRead, RunsOn}
 use Rattle.session_commands.specs.Opening.{ending_of_open}
 
@@ -53,6 +53,7 @@ ending_of_fault (SyncPeer at what) = Peer what at
 ending_of_fault (SyncRefused SyncInboxFull) = Refused InboxFull
 ending_of_fault (SyncRefused SyncBoxFull) = BoxFull
 ending_of_fault (SyncRefused SyncUnknown) = NoBox
+ending_of_fault (SyncRefused (SyncDenied rule)) = Denied rule
 ending_of_fault (SyncStore call) = DiskFault
 ending_of_fault SyncWrite = Done
 

@@ -11,9 +11,9 @@ use Rattle.endings.specs.declared.ending.Ending.TheVariants.{Done}
 use Rattle.kem_laws.specs.Mechanism.{Mechanism}
 use Rattle.session_model.specs.Clients.{Client}
 use Rattle.client.specs.Moments.{Known, settled_in}
-use Rattle.session_commands.specs.Asking.{asked_say, asked_take}
+use Rattle.command_lines.specs.Asking.{asked_say, asked_take}
 use Rattle.session_commands.specs.Disks.{ReadsAsKept}
-use Rattle.session_commands.specs.InWorlds.{RunsAct}
+use Rattle.session_commands.specs.Acting.{RunsAct}
 use Rattle.session_commands.specs.WholeRuns.{AreRun, IsCutFrom}
 
 -- what a read gives has this packet in its outbox

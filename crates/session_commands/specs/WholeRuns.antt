@@ -1,6 +1,6 @@
 -- Runs of commands on one disk, one after the other, with crashes in them and between them, while
 -- the other side goes on.
-use Rattle.std.specs.Prelude.{List, Result, Some, [], slice_get, ℕ, ◌+◌, ◌≡◌}
+use Rattle.std.specs.Prelude.{List, Result, Some, [], slice_get, ℕ, ◌+◌, ◌≡◌, ◌⊎◌}
 use Rattle.dr_base.specs.declared.position.Side.{Side}
 use Rattle.dr_disk.specs.State.{Always, DiskState}
 use Rattle.dr_model.specs.Machines.Acts.{dropping}
@@ -17,11 +17,11 @@ use Rattle.client.specs.Moments.{HaveMoved, IsAmongKnown, Known, settled_in}
 use Rattle.client.specs.Syncing.InOrder.{IsLeftBetween}
 use Rattle.client.specs.Syncing.InWorlds.{AreUnforged}
 use Rattle.client.specs.declared.syncing.faults.SyncFault.{SyncFault}
-use Rattle.session_commands.specs.Acting.{ClientAsk}
-use Rattle.session_commands.specs.Asking.{asked_drop, asked_say, asked_take}
+use Rattle.command_lines.specs.Acting.{ClientAsk}
+use Rattle.command_lines.specs.Asking.{asked_drop, asked_say, asked_take}
 use Rattle.session_commands.specs.Disks.{RunsOn}
 use Rattle.session_commands.specs.Histories.{acted_known, cut_in_sync, cut_known, shown_known, synced_known}
-use Rattle.session_commands.specs.InWorlds.{RunsIn}
+use Rattle.session_commands.specs.Acting.{RunsIn}
 use Rattle.session_commands.specs.Showing.{ShowsIn}
 use Rattle.session_commands.specs.Syncing.{SyncRunsIn}
 
@@ -93,15 +93,24 @@ pub data Ran {X W : Type 0} (state : X → DiskState) (draws : W → DrawsState)
   -- a crash between two commands, or a command that left the disk alone
   was_left_alone : (known : Known) → LeavesAlone (state a) (state b)
       → Ran state draws k side a b known known
-  -- the other side went on, and the disk was left alone
-  peer_went_on : (known moved : Known) → HaveMoved k side known moved
-      → LeavesAlone (state a) (state b) → Ran state draws k side a b known moved
 
--- moments of a disk, from one on at which it stands for the first world, and what ran from each to
--- the next
-pub record AreRun {X W : Type 0} (state : X → DiskState) (draws : W → DrawsState) (moments : List X) (k : Mechanism) (side : Side) (first : World)
-    (known : ℕ → Known) : Type 0 where
+-- the other side went on, and the disk was left alone
+pub record PeerWentOn {X : Type 0} (state : X → DiskState) (k : Mechanism) (side : Side) (a b : X)
+    (known moved : Known) : Type 0 where
+  pub moves : HaveMoved k side known moved
+  pub alone : LeavesAlone (state a) (state b)
+
+-- what comes between two moments of a disk
+abbrev pub Passed : {X W : Type 0} → (X → DiskState) → (W → DrawsState) → Mechanism → Side → X → X
+    → Known → Known → Type 0
+Passed state draws k side a b before after =
+    Ran state draws k side a b before after ⊎ PeerWentOn state k side a b before after
+
+-- moments of a disk, from one on at which it stands for the first world, and what came between each
+-- and the next
+pub record AreRun {X W : Type 0} (state : X → DiskState) (draws : W → DrawsState)
+    (moments : List X) (k : Mechanism) (side : Side) (first : World) (known : ℕ → Known) : Type 0 where
   pub begins : known 0 ≡ settled_in first
   pub stands : (a : X) → slice_get moments 0 ≡ Some a → Always (StandsFor k first side) (state a)
   pub ran : (n : ℕ) (a b : X) → slice_get moments n ≡ Some a → slice_get moments (n + 1) ≡ Some b
-      → Ran state draws k side a b (known n) (known (n + 1))
+      → Passed state draws k side a b (known n) (known (n + 1))

@@ -5,13 +5,12 @@ ghost use Rattle.dr_disk.specs.Spans.{IsQuiet};
 ghost use Rattle.session_commands.specs.Beginning.{Begins, RunsBegin};
 ghost use Rattle.command_lines.specs.Closing.{begun_ending, begun_lines};
 ghost use Rattle.session_commands.specs.Disks.{HasClientRoom};
-ghost use Rattle.session_commands.specs.Runs.{RunsAndCounts};
+ghost use Rattle.command_lines.specs.Runs.{RunsAndCounts};
 
 use crate::endings_of::unbegun;
-use crate::input::read_key;
 use bodies::Format;
 use client::{Begin, Client};
-use command_lines::{finish_with, session_line};
+use command_lines::{finish_with, read_key, session_line};
 use dr_base::Side;
 use dr_disk::Disk;
 use dr_ports::{OutputLine, Sink, Source};

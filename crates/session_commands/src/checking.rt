@@ -5,7 +5,7 @@ ghost use Rattle.dr_disk.specs.Spans.{IsQuiet};
 ghost use Rattle.dr_ports.specs.Writing.{Writes};
 ghost use Rattle.session_commands.specs.Checking.{RunsCheck, ending_of_look, finding_line, found_lines, gate_line, gate_lines, report_lines, rest_line};
 ghost use Rattle.session_commands.specs.Disks.{HasClientRoom};
-ghost use Rattle.session_commands.specs.Runs.{RunsAndCounts};
+ghost use Rattle.command_lines.specs.Runs.{RunsAndCounts};
 
 use answer_lines::put_named;
 use client::look;

@@ -2,11 +2,11 @@
 
 ghost use Rattle.dr_disk.specs.Spans.{IsQuiet};
 ghost use Rattle.dr_model.specs.Machines.Acts.{dropping};
-ghost use Rattle.session_commands.specs.Asking.{asked_drop};
+ghost use Rattle.command_lines.specs.Asking.{asked_drop};
 ghost use Rattle.command_lines.specs.Closing.{ending_by, lines_of_ending};
 ghost use Rattle.session_commands.specs.Disks.{HasClientRoom};
-ghost use Rattle.session_commands.specs.InWorlds.{RunsAct};
-ghost use Rattle.session_commands.specs.Runs.{RunsAndCounts};
+ghost use Rattle.session_commands.specs.Acting.{RunsAct};
+ghost use Rattle.command_lines.specs.Runs.{RunsAndCounts};
 
 use crate::endings_of::unopened;
 use client::Client;

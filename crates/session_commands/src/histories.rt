@@ -19,7 +19,7 @@ ghost use Rattle.client.specs.Opening.{ReadsAsSide};
 ghost use Rattle.client.specs.Syncing.InOrder.{IsLeftBetween};
 ghost use Rattle.client.specs.Syncing.InWorlds.{AreUnforged};
 ghost use Rattle.client.specs.declared.syncing.faults.SyncFault.{SyncFault};
-ghost use Rattle.session_commands.specs.Asking.{asked_drop, asked_say, asked_take};
+ghost use Rattle.command_lines.specs.Asking.{asked_drop, asked_say, asked_take};
 ghost use Rattle.session_commands.specs.Completing.{ReadsWhole};
 ghost use Rattle.session_commands.specs.Disks.{RunsOn};
 ghost use Rattle.session_commands.specs.Histories.{LinksActs, LinksCuts, cut_in_sync, shown_known, synced_known};

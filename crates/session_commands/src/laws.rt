@@ -1,4 +1,4 @@
-//! The laws of the commands: what follows of their clauses, over runs of them too, and their limits.
+//! The laws of the commands: what follows of their clauses, over runs of them too.
 //! The functions have no code: a caller that needs a fact calls one.
 
 ghost use Rattle.std.specs.Prelude.{ℕ, List, ◌≡◌, ◌⊎◌};
@@ -10,17 +10,16 @@ ghost use Rattle.endings.specs.declared.ending.Ending.TheVariants.{NoMemory};
 ghost use Rattle.kem_laws.specs.Mechanism.{Mechanism};
 ghost use Rattle.session_model.specs.Clients.{Client};
 ghost use Rattle.client.specs.declared.begin.Begin.{Begin};
-ghost use Rattle.session_commands.specs.Asking.{asked_drop, asked_say, asked_take};
+ghost use Rattle.command_lines.specs.Asking.{asked_drop, asked_say, asked_take};
 ghost use Rattle.session_commands.specs.Beginning.{Begins};
 ghost use Rattle.session_commands.specs.Checking.{RunsCheck};
 ghost use Rattle.session_commands.specs.Completing.{DidWork, IsAccepted, MayBegin, NoneFailed, ReadsWhole};
-ghost use Rattle.session_commands.specs.InWorlds.{RunsAct};
+ghost use Rattle.session_commands.specs.Acting.{RunsAct};
 ghost use Rattle.session_commands.specs.Showing.{RunsShow};
 ghost use Rattle.session_commands.specs.SyncCompleting.{AnswersClient, NoneFailedOver, SyncedToEnd};
 ghost use Rattle.session_commands.specs.Syncing.{RunsSync};
 
 pub use crate::histories::{crashes_are_links, reads_known, runs_are_links, stays_whole};
-pub use crate::input::limits_in_numbers;
 pub use crate::whole_runs::{runs_are_linked, talk};
 use dr_disk::Disk;
 use dr_ports::{Draws, Link};

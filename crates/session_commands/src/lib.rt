@@ -1,5 +1,6 @@
 //! The work of the commands on a session, on a source, a sink, a disk, a link and draws: begin,
-//! say, take, done, sent, check and sync, and the four that show what the client keeps.
+//! say, take, done, sent, check and sync, the four that show what the client keeps, the one
+//! that shows a long text, and the one that shows the keys of its boxes.
 //!
 //! Each command but `begin` opens the client that the disk holds, lets it act at most once, sync,
 //! or shows what it keeps, writes its lines and answers its status. `take` and `begin` read the
@@ -9,7 +10,8 @@
 pub use beginning::begin;
 pub use checking::check;
 pub use dropping::drop_items;
-pub use input::{KEY_TEXT_LIMIT, PACKET_TEXT_LIMIT};
+pub use keys::show_keys;
+pub use longs::long;
 pub use saying::say;
 pub use showing::show;
 pub use syncing::sync;
@@ -20,8 +22,9 @@ mod checking;
 mod dropping;
 mod endings_of;
 mod histories;
-mod input;
+mod keys;
 pub mod laws;
+mod longs;
 mod saying;
 mod showing;
 mod syncing;

@@ -3,7 +3,7 @@
 ghost use Rattle.command_lines.specs.Listings.{lines_of};
 ghost use Rattle.dr_disk.specs.Spans.{IsQuiet};
 ghost use Rattle.session_commands.specs.Disks.{HasClientRoom};
-ghost use Rattle.session_commands.specs.Runs.{RunsAndCounts};
+ghost use Rattle.command_lines.specs.Runs.{RunsAndCounts};
 ghost use Rattle.session_commands.specs.Showing.{RunsShow};
 
 use crate::endings_of::unopened;

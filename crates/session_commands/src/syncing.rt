@@ -7,8 +7,8 @@ ghost use Rattle.dr_ports.specs.declared.pipe.Part.{Part};
 ghost use Rattle.sync_model.specs.declared.more.More.{More};
 ghost use Rattle.endings.specs.Ends.{Ends};
 ghost use Rattle.session_commands.specs.Disks.{HasClientRoom};
-ghost use Rattle.session_commands.specs.Runs.{RunsAndCounts};
-ghost use Rattle.session_commands.specs.Syncing.{HasWritten, HasPrintedPlace, RunsSync, ending_of_fault, ending_of_sync};
+ghost use Rattle.command_lines.specs.Runs.{RunsAndCounts};
+ghost use Rattle.session_commands.specs.Syncing.{HasPrintedPlace, HasWritten, RunsSync, ending_of_fault, ending_of_sync};
 
 use crate::endings_of::unopened;
 use client::{Client, SyncFault, SyncRefusal};
@@ -35,6 +35,7 @@ fn broken_off(fault: SyncFault) -> Ending
         SyncFault::Refused(SyncRefusal::InboxFull) => Ending::Refused(Refusal::InboxFull),
         SyncFault::Refused(SyncRefusal::BoxFull) => Ending::BoxFull,
         SyncFault::Refused(SyncRefusal::Unknown) => Ending::NoBox,
+        SyncFault::Refused(SyncRefusal::Denied { rule }) => Ending::Denied(u32::from(rule)),
         SyncFault::Store { .. } => Ending::DiskFault,
         SyncFault::Write => Ending::Done,
     }

@@ -2,16 +2,16 @@
 
 ghost use Rattle.std.specs.Prelude.{◌≡◌, ◌≤◌};
 ghost use Rattle.dr_disk.specs.Spans.{IsQuiet};
-ghost use Rattle.session_commands.specs.Asking.{asked_take};
+ghost use Rattle.command_lines.specs.Asking.{asked_take};
 ghost use Rattle.command_lines.specs.Closing.{ending_by, lines_of_ending};
 ghost use Rattle.session_commands.specs.Disks.{HasClientRoom};
-ghost use Rattle.session_commands.specs.InWorlds.{RunsAct};
-ghost use Rattle.session_commands.specs.Runs.{RunsAndCounts, RunsTake};
+ghost use Rattle.session_commands.specs.Acting.{RunsAct};
+ghost use Rattle.command_lines.specs.Runs.{RunsAndCounts};
+ghost use Rattle.session_commands.specs.Taking.{RunsTake};
 
 use crate::endings_of::unopened;
-use crate::input::read_packet;
 use client::Client;
-use command_lines::{close, taken};
+use command_lines::{close, read_packet, taken};
 use dr_disk::Disk;
 use dr_ports::{Sink, Source};
 use endings::{Ending, Status};

@@ -1,4 +1,4 @@
-use Rattle.session_commands.specs.Asking.{asked_drop, asked_say, asked_take}
+use Rattle.command_lines.specs.Asking.{asked_drop, asked_say, asked_take}
 use Rattle.session_commands.proofs.Linking.{acts_link, shows_link, stays_link, syncs_link}
 use Rattle.session_commands.proofs.histories.runs_are_links.Goals as goal
 

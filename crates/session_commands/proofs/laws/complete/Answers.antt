@@ -1,4 +1,4 @@
-use Rattle.session_commands.specs.Asking.{asked_drop, asked_say, asked_take}
+use Rattle.command_lines.specs.Asking.{asked_drop, asked_say, asked_take}
 use Rattle.session_commands.proofs.Completing.{act_completes, begin_completes, check_completes, show_completes}
 use Rattle.session_commands.proofs.laws.complete.Goals as goal
 

@@ -1,15 +1,16 @@
 use Rattle.std.proofs.Common.{◌≡◌}
 use Rattle.dr_disk.specs.Spans.{IsQuiet}
-use Rattle.session_commands.specs.Asking.{asked_say}
+use Rattle.command_lines.specs.Asking.{asked_say}
 use Rattle.command_lines.specs.Closing.{ending_by, lines_of_ending}
-use Rattle.session_commands.proofs.Quiet.{act_counts, no_draw_failed}
+use Rattle.command_lines.proofs.Counting.{act_counts, no_draw_failed}
+use Rattle.session_commands.specs.Disks.{client_place}
+use Rattle.session_commands.proofs.Quiet.{open_code}
 use Rattle.session_commands.proofs.saying.say.Goals as goal
 
 pub returns : goal.returns
 returns g c =
-    act_counts g.D.Disk.state g.K.Kem.mechanism
-    (asked_say g.W.Draws.at c.args.text.now c.args.draws.now c.say_text-worked.new.draws) c.args.disk.now
-    c.say_text-worked.new.disk
+    act_counts (client_place g.K.Kem.mechanism) open_code g.D.Disk.state g.K.Kem.mechanism c.args.disk.now
+    c.say_text-worked.new.disk (asked_say g.W.Draws.at c.args.text.now c.args.draws.now c.say_text-worked.new.draws)
     (IsQuiet (g.D.Disk.state c.args.disk.now) (g.D.Disk.state c.say_text-worked.new.disk)
     × ((g.W.Draws.at c.say_text-worked.new.draws).faults ≡ (g.W.Draws.at c.args.draws.now).faults))
     (λ kept act asks quiet.

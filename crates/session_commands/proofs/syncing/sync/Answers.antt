@@ -7,8 +7,13 @@ use Rattle.client.specs.Syncing.Moments.{moment}
 use Rattle.client.specs.Syncing.Parties.{client_party}
 use Rattle.client.specs.Syncing.Syncs.{EndsSync}
 use Rattle.session_commands.specs.Syncing.{RunsSync, ending_of_sync, lines_of_sync, was_synced, wasnt_linked, wasnt_synced}
-use Rattle.session_commands.proofs.Quiet.{ended, open_code}
-use Rattle.session_commands.proofs.Standing.{only_opened, stood}
+use Rattle.client.specs.Cells.{client_cell}
+use Rattle.client.specs.Keepings.{client_keeping}
+use Rattle.command_lines.proofs.Counting.{ended}
+use Rattle.command_lines.proofs.Standing.{only_opened, stood}
+use Rattle.session_commands.specs.Disks.{client_place}
+use Rattle.session_commands.proofs.Opened.{client_fits, opened_at, stands_at}
+use Rattle.session_commands.proofs.Quiet.{open_code}
 use Rattle.session_commands.proofs.SyncRuns.{leaves_course, sync_ends, sync_runs}
 use Rattle.session_commands.proofs.Syncs.{done_quiet, each_part, has_written, near_result}
 use Rattle.session_commands.proofs.syncing.sync.Goals as goal
@@ -23,8 +28,9 @@ returns-in-Err g c = record {
         (g.O.Sink.at c.args.out.now).faults (g.O.Sink.at c.finish.new.out).faults e []) (sym c.unopened.ensures)
         (wasnt_synced c.in-Err.refusal c.in-Err.ensures.unopened (record { any_moment = c.open.ensures.any_moment; reads = c.open.ensures.reads }) refl
         (λ w side lawful stands.
-        only_opened g.K.Kem.mechanism side w (g.D.Disk.state c.args.disk.now) (g.D.Disk.state c.open.new.disk) (Err c.in-Err.refusal)
-        (c.in-Err.ensures.in_worlds w side lawful stands) c.open.ensures.any_moment c.open.ensures.reads));
+        only_opened client_cell g.K.Kem.mechanism side w (g.D.Disk.state c.args.disk.now) (g.D.Disk.state c.open.new.disk)
+        (stands_at g.K.Kem.mechanism w side (g.D.Disk.state c.args.disk.now) (g.D.Disk.state c.open.new.disk) (Err c.in-Err.refusal)
+        (c.in-Err.ensures.in_worlds w side lawful stands)) c.open.ensures.any_moment c.open.ensures.reads));
     ends = c.finish.ensures.ends;
   };
   quiet = λ zero.
@@ -39,12 +45,15 @@ returns-in-Err-open g c = record {
     lines = [];
     came =
         wasnt_linked c.in-Ok.client.kept c.in-Ok.ensures.opened.read
-        (stood g.D.Disk.state g.K.Kem.mechanism c.args.disk.now c.open.new.disk c.open.new.disk (g.met.D.Disk.lawful c.open.new.disk) c.in-Ok.client
-        c.in-Ok.ensures.opened refl c.open.ensures.any_moment)
+        (stood (client_place g.K.Kem.mechanism) client_keeping g.D.Disk.state g.K.Kem.mechanism c.args.disk.now c.open.new.disk
+        c.open.new.disk (g.met.D.Disk.lawful c.open.new.disk) c.in-Ok.client (client_fits g.K.Kem.mechanism c.in-Ok.client)
+        (opened_at g.K.Kem.mechanism c.in-Ok.client (g.D.Disk.state c.args.disk.now) (g.D.Disk.state c.open.new.disk)
+        c.in-Ok.ensures.opened) c.open.ensures.any_moment refl)
         c.in-Err-open.ensures.err c.in-Err-open.ensures.flow c.in-Err-open.ensures.cause.failed
         (λ w side lawful stands.
-        only_opened g.K.Kem.mechanism side w (g.D.Disk.state c.args.disk.now) (g.D.Disk.state c.open.new.disk) (Ok c.in-Ok.client)
-        (c.in-Ok.ensures.in_worlds w side lawful stands) c.open.ensures.any_moment c.open.ensures.reads);
+        only_opened client_cell g.K.Kem.mechanism side w (g.D.Disk.state c.args.disk.now) (g.D.Disk.state c.open.new.disk)
+        (stands_at g.K.Kem.mechanism w side (g.D.Disk.state c.args.disk.now) (g.D.Disk.state c.open.new.disk) (Ok c.in-Ok.client)
+        (c.in-Ok.ensures.in_worlds w side lawful stands)) c.open.ensures.any_moment c.open.ensures.reads);
     ends = c.finish-in-Err-open.ensures.ends;
   };
   quiet = λ zero.

@@ -1,26 +1,36 @@
-use Rattle.std.proofs.Common.{[], refl, subst, sym}
+use Rattle.std.proofs.Common.{Err, [], refl, subst, sym}
 use Rattle.dr_model.specs.Machines.Acts.{taking}
 use Rattle.client.specs.Outcomes.{taken_as}
-use Rattle.session_commands.specs.Asking.{asked_take}
+use Rattle.command_lines.specs.Asking.{asked_take}
 use Rattle.command_lines.specs.Closing.{ending_by, lines_of_ending}
-use Rattle.session_commands.specs.InWorlds.{RunsAct}
-use Rattle.session_commands.proofs.Acts.{act_runs}
-use Rattle.session_commands.proofs.Unopened.{unopened_runs}
+use Rattle.session_commands.specs.Acting.{RunsAct}
+use Rattle.client.specs.Keepings.{client_keeping}
+use Rattle.command_lines.proofs.Acts.{act_runs}
+use Rattle.session_commands.specs.Disks.{client_place}
+use Rattle.session_commands.proofs.Opened.{client_fits, opened_at, opens_at, stands_at}
+use Rattle.command_lines.proofs.Unopened.{unopened_runs}
 use Rattle.session_commands.proofs.taking.take_packet.Goals as goal
 
 pub returns-in-Err : goal.returns-in-Err
 returns-in-Err g c =
     let asked = asked_take g.K.Kem.mechanism c.args.packet.now in
     subst (λ e. RunsAct g.D.Disk.state g.K.Kem.mechanism asked c.args.disk.now c.open.new.disk e []) (sym c.unopened.ensures)
-    (unopened_runs g.D.Disk.state g.K.Kem.mechanism c.args.disk.now c.open.new.disk c.in-Err.refusal c.in-Err.ensures.unopened
-    c.open.ensures.any_moment c.open.ensures.reads c.in-Err.ensures.in_worlds asked tt)
+    (unopened_runs (client_place g.K.Kem.mechanism) g.D.Disk.state g.K.Kem.mechanism c.args.disk.now c.open.new.disk c.in-Err.refusal
+    c.in-Err.ensures.unopened c.open.ensures.any_moment c.open.ensures.reads
+    (λ w side lawful reads. stands_at g.K.Kem.mechanism w side (g.D.Disk.state c.args.disk.now) (g.D.Disk.state c.open.new.disk)
+    (Err c.in-Err.refusal) (c.in-Err.ensures.in_worlds w side lawful reads)) asked tt)
 
 pub returns-in-Ok : goal.returns-in-Ok
 returns-in-Ok g c =
     let asked = asked_take g.K.Kem.mechanism c.args.packet.now in
     subst (λ r. RunsAct g.D.Disk.state g.K.Kem.mechanism asked c.args.disk.now c.take-acted.new.disk (ending_by r) (lines_of_ending r))
     (sym c.taken.ensures)
-    (act_runs g.D.Disk.state g.K.Kem.mechanism c.args.disk.now c.open.new.disk c.take-acted.new.disk
-    (g.met.D.Disk.lawful c.take-acted.new.disk) c.in-Ok.client c.take-acted.new.self c.in-Ok.ensures.opened
+    (act_runs (client_place g.K.Kem.mechanism) client_keeping g.D.Disk.state g.K.Kem.mechanism c.args.disk.now c.open.new.disk
+    c.take-acted.new.disk (g.met.D.Disk.lawful c.take-acted.new.disk) c.in-Ok.client c.take-acted.new.self
+    (client_fits g.K.Kem.mechanism c.in-Ok.client)
+    (opened_at g.K.Kem.mechanism c.in-Ok.client (g.D.Disk.state c.args.disk.now) (g.D.Disk.state c.open.new.disk)
+    c.in-Ok.ensures.opened)
     c.open.ensures.any_moment asked (taking c.args.packet.now) refl (λ w side fair. fair) (taken_as c.take-acted.result)
-    c.take-acted.ensures.exact c.in-Ok.ensures.in_worlds c.take-acted.ensures.in_worlds)
+    c.take-acted.ensures.exact
+    (λ w side lawful reads. opens_at g.K.Kem.mechanism w side c.in-Ok.client (g.D.Disk.state c.args.disk.now)
+    (g.D.Disk.state c.open.new.disk) (c.in-Ok.ensures.in_worlds w side lawful reads)) c.take-acted.ensures.in_worlds)
