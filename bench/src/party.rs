@@ -2,7 +2,7 @@
 
 ghost use Rattle.std.specs.Prelude.{◌≡◌, is_some};
 
-use bodies::Format;
+use bodies::{Format, TEXT_KIND};
 use boxes::{Inbox, Outbox};
 use cka::agreement_length;
 use dr_base::{Key32, Side};
@@ -76,11 +76,11 @@ pub fn say<K: Kem>(
     byte: u8,
     room: &mut PacketRoom,
 ) {
-    let Ok(asked) = party.session.send_check(text.len()) else {
+    let Ok(asked) = party.session.send_check(TEXT_KIND, text) else {
         return;
     };
     let seed = seed_of(asked, byte);
-    if let Ok(draft) = party.session.draft_send(work, text, seed, room) {
+    if let Ok(draft) = party.session.draft_send(work, TEXT_KIND, text, seed, room) {
         let _pushed = party.outbox.push(draft.position(), draft.packet());
         draft.accept(&mut party.session);
     }

@@ -7,7 +7,7 @@ use boxes::{Inbox, Outbox, TEXT_KIND};
 use dr_base::{INBOX_LIMIT, Key32, OUTBOX_LIMIT, Position, Side, TEXT_LIMIT};
 use kem_laws::Kem;
 use ratchet::{PacketRoom, Session};
-use session_record::{Change, RECORD_LIMIT, decode, encode};
+use session_record::{Change, RECORD_LIMIT, RelayKeys, decode, encode};
 use sntrup761::Sntrup761;
 use std::alloc::Global;
 use std::io;
@@ -22,9 +22,11 @@ const RUNS: usize = 201;
 fn fill_outbox<K: Kem>(session: &mut Session<K>, work: &mut K::Work, outbox: &mut Outbox) {
     let mut room = PacketRoom::new();
     for _ in 0..OUTBOX_LIMIT {
-        if let Ok(asked) = session.send_check(TEXT_LIMIT) {
+        if let Ok(asked) = session.send_check(TEXT_KIND, &[5; TEXT_LIMIT]) {
             let seed = seed_of(asked, 3);
-            if let Ok(draft) = session.draft_send(work, &[5; TEXT_LIMIT], seed, &mut room) {
+            if let Ok(draft) =
+                session.draft_send(work, TEXT_KIND, &[5; TEXT_LIMIT], seed, &mut room)
+            {
                 let _pushed = outbox.push(draft.position(), draft.packet());
                 draft.accept(session);
             }
@@ -40,11 +42,13 @@ fn fill_inbox(inbox: &mut Inbox) {
 }
 
 /// Writes the record, where the buffer has room for any, and answers its length.
-fn write<K: Kem>(session: &Session<K>, inbox: &Inbox, outbox: &Outbox, out: &mut [u8]) -> usize {
+fn write<K: Kem>(client: &Full<K>, out: &mut [u8]) -> usize {
     if out.len() < RECORD_LIMIT {
         return 0;
     }
-    encode(&session.part(), inbox, outbox, &Change::Same, out)
+    let part = client.session.part();
+    let keys = Some(&client.keys);
+    encode(&part, &client.inbox, &client.outbox, &Change::Same, keys, out)
 }
 
 /// A client with full boxes.
@@ -53,18 +57,15 @@ struct Full<K: Kem> {
     session: Session<K>,
     inbox: Inbox,
     outbox: Outbox,
+    keys: RelayKeys,
 }
 
 /// Fills both boxes of a client, if the key has a pair.
 fn filled_client<K: Kem>(alloc: Global, work: &mut K::Work) -> io::Result<Full<K>> {
     let mut inbox = Inbox::new(alloc)?;
     let mut outbox = Outbox::new(alloc)?;
-    let Ok(mut session) = Session::<K>::begin(
-        work,
-        Side::First,
-        Format::Plain,
-        &Key32 { bytes: [7; 32] },
-    ) else {
+    let key = Key32 { bytes: [7; 32] };
+    let Ok(mut session) = Session::<K>::begin(work, Side::First, Format::Plain, &key) else {
         return Err(Error::from(ErrorKind::InvalidData));
     };
     fill_outbox(&mut session, work, &mut outbox);
@@ -73,6 +74,7 @@ fn filled_client<K: Kem>(alloc: Global, work: &mut K::Work) -> io::Result<Full<K
         session,
         inbox,
         outbox,
+        keys: RelayKeys::of(&key),
     })
 }
 
@@ -86,7 +88,7 @@ fn time_write<K: Kem, R: Clock + AllocGlobal>(
     let mut times = Times::new(rt.alloc());
     for _ in 0..RUNS {
         let start = Instant::now(rt)?;
-        len = write(&client.session, &client.inbox, &client.outbox, out);
+        len = write(client, out);
         times.add(rt, start)?;
     }
     Ok((times.median()?, len))

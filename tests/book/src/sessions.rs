@@ -16,7 +16,7 @@ use std::test::Fail;
 
 /// What is asked under a name.
 #[derive(Clone, Copy)]
-enum Call {
+pub(crate) enum Call {
     Begin(Side, Format, u8),
     /// A text so many times, with a seed of this byte.
     Say(&'static str, usize, u8),
@@ -29,7 +29,7 @@ enum Call {
 
 /// How it ends.
 #[derive(Clone, Copy, PartialEq, Eq)]
-enum Ends {
+pub(crate) enum Ends {
     Did,
     At(u32, u32),
     BadName,
@@ -50,12 +50,12 @@ const LONG: &str = "xxxxxxxxxxxxxxxxxxxxxxxxxxxxxxxxxxxxxxxx";
 /// The calls, how they end, and the digest of the disk, where it is looked at.
 const EVENTS: [(&str, Call, Ends, &str); 27] = [
     ("bob", Begin(Side::Second, Format::Plain, 1), Did, ""),
-    ("al-1", Begin(Side::First, Format::Padded, 2), Did, "0515ab2d717f74fbb401839d43a99859c4b74731f01a099d8ae1d327aa09723c"),
+    ("al-1", Begin(Side::First, Format::Padded, 2), Did, "e0e7aa1eea8ed209067d4843878ca42a28ecf888ff3fd6915118129a7cd31d61"),
     ("bob", Begin(Side::First, Format::Plain, 3), NameTaken, ""),
     ("Bob", Begin(Side::First, Format::Plain, 3), BadName, ""),
     ("bob", Say("hi", 1, 0), At(0, 1), ""),
     ("al-1", Say("hello", 1, 1), At(1, 1), ""),
-    ("al-1", Take(2, 1), At(2, 1), "e7a1c43c6c22b397c2d6fe8582833ad7b175a1ff49de33ee4100516e417c1850"),
+    ("al-1", Take(2, 1), At(2, 1), "ac0d9faef76091c0a5d37fb175d7d965b136415c0f31a062a1ebbe86ec795cda"),
     ("al-1", Take(2, 1), Spent, ""),
     ("0", Begin(Side::Second, Format::Receipts, 4), Did, ""),
     ("zoe", Begin(Side::First, Format::Plain, 5), Full, ""),
@@ -63,11 +63,11 @@ const EVENTS: [(&str, Call, Ends, &str); 27] = [
     ("bob", Say("a", 3000, 0), At(0, 2), ""),
     ("bob", Say("b", 3000, 0), At(0, 3), ""),
     ("bob", Say("c", 4096, 0), At(0, 4), ""),
-    ("bob", Take(1, 1), At(1, 1), "4b932ad7203308c74951859ee5ea7a0d888d163113a4a412f11f0a2ef927b4d2"),
+    ("bob", Take(1, 1), At(1, 1), "4daed8b43fb94c3522083016e42c273fc1730668448156e50bea82d16b15fdb5"),
     ("bob", Sent(4), Did, ""),
     ("bob", Sent(3), Fewer, ""),
     ("bob", Say("a", 4097, 0), TooLong, ""),
-    ("bob", Done(1), Did, "959f48e6c13d22a46981c6bab1df8ad0f52bc16954a5455cde094b75932c7bd6"),
+    ("bob", Done(1), Did, "028cfe24481841b4438e6b862e8d8b1aabf35ddf368b84f4155cf24642e0a149"),
     ("al-1", Forget, Did, ""),
     ("al-1", Forget, NoName, ""),
     (LONG, Begin(Side::First, Format::Plain, 6), Did, ""),
@@ -178,7 +178,7 @@ fn forgotten(answer: Result<(), ForgetError>) -> Ends {
 }
 
 /// The book is opened, and asked.
-fn asked(
+pub(crate) fn asked(
     alloc: Global,
     disk: &mut MemoryDisk,
     name: &str,

@@ -3,7 +3,7 @@
 ghost use Rattle.std.specs.Prelude.{◌≡◌, ◌≤◌, length, is_some};
 
 use arrayvec::ArrayVec;
-use bodies::Format;
+use bodies::{Format, TEXT_KIND};
 use dr_base::{Key32, PACKET_LIMIT, Position, Side, TEXT_LIMIT, in_room};
 use kem_laws::{NoPair, OpenKem};
 use packet::parse;
@@ -34,10 +34,10 @@ pub(crate) fn say(
     text: &[u8],
     byte: u8,
 ) -> Result<Packet, Refusal> {
-    let asked = session.send_check(text.len())?;
+    let asked = session.send_check(TEXT_KIND, text)?;
     let seed = seed_of(asked, byte);
     let mut room = PacketRoom::new();
-    match session.draft_send(&mut (), text, seed, &mut room) {
+    match session.draft_send(&mut (), TEXT_KIND, text, seed, &mut room) {
         Err(NoPairFor { seed: _ }) => Err(Refusal::NoPair),
         Ok(draft) => {
             let packet = in_room(draft.packet());

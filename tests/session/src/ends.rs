@@ -1,6 +1,6 @@
 //! Sessions that can't say a text any more.
 
-use bodies::Format;
+use bodies::{Format, TEXT_KIND};
 use cka::{Agreement, PublicText, SecretText};
 use dr_base::{Key32, Side};
 use fs_aead::Skipped;
@@ -62,7 +62,7 @@ fn last_session() -> Session<OpenKem> {
 
 #[test]
 fn ends_are_refused(rt: HostRuntime) -> Result<(), Fail> {
-    assert!(rt; full_session().send_check(1) == Err(SendRefusal::EpochFull));
-    assert!(rt; last_session().send_check(1) == Err(SendRefusal::LastEpoch));
+    assert!(rt; full_session().send_check(TEXT_KIND, b"x") == Err(SendRefusal::EpochFull));
+    assert!(rt; last_session().send_check(TEXT_KIND, b"x") == Err(SendRefusal::LastEpoch));
     Ok(())
 }

@@ -31,9 +31,12 @@ fn begun(alloc: Global, version: u8) -> Result<Vec<u8>, AllocError> {
     Ok(text)
 }
 
-/// Where a version has them, no texts that wait.
+/// Where a version has them, no texts that wait, and no keys of the session's boxes.
 fn close(text: &mut Vec<u8>, version: u8) -> Result<(), AllocError> {
     if version > 3 {
+        text.push(0)?;
+    }
+    if version > 4 {
         text.push(0)?;
     }
     Ok(())
@@ -90,8 +93,9 @@ fn with_text(alloc: Global, version: u8, n: u16) -> Result<Vec<u8>, AllocError> 
     Ok(text)
 }
 
-/// How long the end of a record is where one text waits: their number and a position.
-const WAITING: usize = 1 + 8;
+/// How long the end of a record is where one text waits: their number and a position, and a byte
+/// that says that there are no keys of the session's boxes.
+const END: usize = 1 + 8 + 1;
 
 /// The record of a plain session of Second's that said one text, with one packet and without the
 /// text that waits, in a version.
@@ -107,8 +111,8 @@ fn encoded(
     let outbox = Outbox::new(alloc)?;
     let mut text = vec![in alloc; 0; RECORD_LIMIT]?;
     let change = Change::Said { packet };
-    let len = encode(&session.part(), &inbox, &outbox, &change, &mut text);
-    match text.get(3..len.saturating_sub(WAITING)) {
+    let len = encode(&session.part(), &inbox, &outbox, &change, None, &mut text);
+    match text.get(3..len.saturating_sub(END)) {
         Some(rest) => {
             let mut text = of_side(alloc, version, 2, rest)?;
             close(&mut text, version)?;

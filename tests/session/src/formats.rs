@@ -37,18 +37,18 @@ fn records_keep_the_format(rt: HostRuntime) -> Result<(), Fail> {
     let rows = [
         (
             Format::Plain,
-            "28cefe0d71f84106b212e199a22cecd2fd0c517971bfc3fc34132ab5b104cd2b",
-            "058fe8f06dcb34fb0d29e3e8192d614b1bb213c4d76d3a459e2bcc0e2c5e6734",
+            "2ec29d193e7cd431c33d02f22f71f2e16d49d9b5ee87952229bc37286f71a541",
+            "e9486d0eb8b77dc91de9a673858528ca16d021eb774fc6ad69c6e68711bd374f",
         ),
         (
             Format::Padded,
-            "eb6552ae0115b5d4afe98ac3534bbb3b39e6a5fb7b5ef6628b7a6b526b265015",
-            "770b090212067273f16429ee8e8fb566d754a18183b8034f071b447bd2099365",
+            "1f1a28adf3de1cad85bcef8c22fc7cbc1994431607ffd0bb1e420b29d94a38b1",
+            "00fee3dac49afa1d2aff8a20ed2e8fb57b35bb51b32bab174537c508f262669c",
         ),
         (
             Format::Receipts,
-            "e205c92e0c3627b009f0055c98f7058bbadbc79fa93729e6f6f0e247485ba86b",
-            "0fa6e6b8b5095fb993c88fdca7fb9f649cf3fd171f20a6402f97e0a77f1c3f67",
+            "43aaa584d571f9c51beb152c0b01e025fa260646418876e1dc36ecad752d577a",
+            "1e0eaaf41663ca7ba7ba13e78bacb36a02c85247c217715814775ff23efec771",
         ),
     ];
     for (format, one, other) in rows {

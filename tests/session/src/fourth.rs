@@ -1,7 +1,7 @@
 //! Records of version 4 of an independent implementation: their texts, and where the damage of the
 //! version and of the format is found.
 
-use crate::record::{fourth_of, is_damaged, rewritten};
+use crate::record::{fifth_of, fourth_of, is_damaged, rewritten};
 use crate::versions::{FIRST, SECOND, has_digest};
 use dr_base::Side;
 use hex::decode;
@@ -25,21 +25,26 @@ pub(crate) fn fourth(alloc: Global, side: Side, waiting: &str) -> Result<Vec<u8>
 }
 
 /// What waits of First's texts after the conversation, and of Second's.
-const FIRST_WAITING: &str = "0200000001000000010000000300000001";
+pub(crate) const FIRST_WAITING: &str = "0200000001000000010000000300000001";
 
 const SECOND_WAITING: &str = "040000000000000001000000000000000200000000000000030000000200000001";
 
-/// Whether a text has this SHA-256, and is written as it is.
-fn is_whole(alloc: Global, text: &[u8], sha256: &str) -> Result<bool, Fail> {
+/// Whether a text has the first SHA-256, and is written in version 5, with the other.
+fn is_whole(alloc: Global, text: &[u8], old: &str, new: &str) -> Result<bool, Fail> {
     match rewritten(alloc, text)? {
-        Some(again) => Ok(has_digest(alloc, text, sha256)? && again.as_slice() == text),
+        Some(again) => Ok(
+            has_digest(alloc, text, old)?
+                && has_digest(alloc, &again, new)?
+                && fifth_of(alloc, text)? == again,
+        ),
         None => Ok(false),
     }
 }
 
-/// Whether a side's record, where this waits, has this SHA-256 and is written as it is.
-fn is_kept(alloc: Global, side: Side, waiting: &str, sha256: &str) -> Result<bool, Fail> {
-    is_whole(alloc, &fourth(alloc, side, waiting)?, sha256)
+/// Whether a side's record, where this waits, has the first SHA-256, and in version 5 the other.
+fn is_kept(alloc: Global, row: (Side, &str, &str, &str)) -> Result<bool, Fail> {
+    let (side, waiting, old, new) = row;
+    is_whole(alloc, &fourth(alloc, side, waiting)?, old, new)
 }
 
 #[test]
@@ -49,15 +54,17 @@ fn records_of_version_4_are_read_and_written(rt: HostRuntime) -> Result<(), Fail
             Side::First,
             FIRST_WAITING,
             "28cefe0d71f84106b212e199a22cecd2fd0c517971bfc3fc34132ab5b104cd2b",
+            "163ce6169b9e1b244c4d4ee94e80040705454676f0d9fb5e77d998932b3200e4",
         ),
         (
             Side::Second,
             SECOND_WAITING,
             "058fe8f06dcb34fb0d29e3e8192d614b1bb213c4d76d3a459e2bcc0e2c5e6734",
+            "125b6444e5194138ce9ac3e4e324ac7374bd9884674f0562c19c3c93ae7e828e",
         ),
     ];
-    for (side, waiting, sha256) in rows {
-        assert!(rt; is_kept(rt.alloc(), side, waiting, sha256)?);
+    for row in rows {
+        assert!(rt; is_kept(rt.alloc(), row)?);
     }
     Ok(())
 }
@@ -85,7 +92,8 @@ fn version_and_format_are_looked_at(rt: HostRuntime) -> Result<(), Fail> {
         (0, 2, Some(86)),
         (0, 3, Some(323)),
         (0, 4, None),
-        (0, 5, Some(0)),
+        (0, 5, Some(604)),
+        (0, 6, Some(0)),
         (0, 255, Some(0)),
         (2, 0, Some(2)),
         (2, 1, None),

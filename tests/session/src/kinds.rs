@@ -1,6 +1,6 @@
 //! The kinds of the texts in an inbox, by an independent implementation.
 
-use crate::record::{is_damaged, rewritten};
+use crate::record::{fifth_of, is_damaged, rewritten};
 use hex::decode;
 use std::alloc::Global;
 use std::test::Fail;
@@ -36,10 +36,10 @@ fn is_told(alloc: Global, patch: Patch, at: Option<usize>) -> Result<bool, Fail>
     Ok(is_damaged(alloc, &text, at)?)
 }
 
-/// Whether the record is written as it is.
+/// Whether the record is written in version 5.
 fn is_kept(alloc: Global) -> Result<bool, Fail> {
     let text = decode(alloc, RECORD)?;
-    Ok(rewritten(alloc, &text)? == Some(text))
+    Ok(rewritten(alloc, &text)? == Some(fifth_of(alloc, &text)?))
 }
 
 #[test]

@@ -12,6 +12,8 @@ mod damage;
 #[cfg(test)]
 mod ends;
 #[cfg(test)]
+mod fifth;
+#[cfg(test)]
 mod filled;
 #[cfg(test)]
 mod formats;
@@ -33,6 +35,8 @@ mod missing;
 mod packets;
 #[cfg(test)]
 mod padded;
+#[cfg(test)]
+mod parts;
 #[cfg(test)]
 mod party;
 #[cfg(test)]

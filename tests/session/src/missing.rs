@@ -20,7 +20,7 @@ fn receipt_of(alloc: Global, session: &Session<OpenKem>) -> Result<Said, Fail> {
     let text = recorded(alloc, session)?;
     let mut inbox = Inbox::new(alloc)?;
     let mut outbox = Outbox::new(alloc)?;
-    let part = decode::<OpenKem>(&text, &mut inbox, &mut outbox)?;
+    let (part, _keys) = decode::<OpenKem>(&text, &mut inbox, &mut outbox)?;
     Ok(said(&part.receipt()))
 }
 

@@ -7,14 +7,15 @@ use boxes::{Inbox, Outbox, TEXT_KIND};
 use dr_base::{Key32, Position, Side};
 use kem_laws::OpenKem;
 use ratchet::Session;
-use session_record::{Change, RECORD_LIMIT, encode};
-use std::alloc::Global;
+use session_record::{Change, RECORD_LIMIT, RelayKeys, encode};
+use std::alloc::{AllocError, Global};
 use std::test::Fail;
 
-/// A side: its session and its boxes.
+/// A side: its session with the keys of its boxes at a relay, and its boxes.
 #[derive(Drop)]
 pub(crate) struct Party {
     pub(crate) session: Session<OpenKem>,
+    pub(crate) keys: RelayKeys,
     pub(crate) inbox: Inbox,
     pub(crate) outbox: Outbox,
 }
@@ -29,6 +30,7 @@ impl Party {
     ) -> Result<Party, Fail> {
         Ok(Party {
             session: Session::begin(&mut (), side, format, key)?,
+            keys: RelayKeys::of(key),
             inbox: Inbox::new(alloc)?,
             outbox: Outbox::new(alloc)?,
         })
@@ -57,12 +59,35 @@ impl Party {
         Ok(())
     }
 
-    /// Whether its record has this SHA-256.
-    pub(crate) fn has_record(&self, alloc: Global, sha256: &str) -> Result<bool, Fail> {
+    /// Its record, with these keys.
+    fn record(&self, alloc: Global, keys: Option<&RelayKeys>) -> Result<Vec<u8>, AllocError> {
         let mut text = vec![in alloc; 0; RECORD_LIMIT]?;
         let part = self.session.part();
-        let len = encode(&part, &self.inbox, &self.outbox, &Change::Same, &mut text);
+        let len = encode(
+            &part,
+            &self.inbox,
+            &self.outbox,
+            &Change::Same,
+            keys,
+            &mut text,
+        );
         text.truncate(len);
+        Ok(text)
+    }
+
+    /// Whether its record has this SHA-256.
+    pub(crate) fn has_record(&self, alloc: Global, sha256: &str) -> Result<bool, Fail> {
+        let text = self.record(alloc, Some(&self.keys))?;
+        has_digest(alloc, &text, sha256)
+    }
+
+    /// Whether its record in version 4 has this SHA-256.
+    pub(crate) fn has_fourth(&self, alloc: Global, sha256: &str) -> Result<bool, Fail> {
+        let mut text = self.record(alloc, None)?;
+        if let Some(version) = text.first_mut() {
+            *version = 4;
+        }
+        let _none = text.pop();
         has_digest(alloc, &text, sha256)
     }
 

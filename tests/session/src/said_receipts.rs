@@ -63,7 +63,8 @@ fn converse(first: &mut Party, second: &mut Party) -> Result<(), Fail> {
     Ok(())
 }
 
-/// Whether the packets have these SHA-256, and the records these, where they are given.
+/// Whether the packets have these SHA-256, and the records of version 4 these, where they are
+/// given.
 fn is_told(
     alloc: Global,
     format: Format,
@@ -75,7 +76,7 @@ fn is_told(
     let mut second = Party::begin(alloc, Side::Second, format, &key)?;
     converse(&mut first, &mut second)?;
     let are_kept = match records {
-        Some((one, other)) => first.has_record(alloc, one)? && second.has_record(alloc, other)?,
+        Some((one, other)) => first.has_fourth(alloc, one)? && second.has_fourth(alloc, other)?,
         None => true,
     };
     let (seconds, firsts) = packets;

@@ -75,7 +75,7 @@ fn is_renewed(alloc: Global, text: &[u8], old: &str, new: &str) -> Result<bool, 
 }
 
 /// Whether a record, in hex, has the SHA-256 of each of the first three versions, and in each of
-/// them is written in the fourth, with the last SHA-256.
+/// them is written in the fifth, with the last SHA-256.
 fn are_renewed(alloc: Global, record: &str, sha256: [&str; 4]) -> Result<bool, Fail> {
     let formats: [Format; 3] = [b"", b"", b"\x01"];
     let mut is_right = true;
@@ -95,7 +95,7 @@ fn old_records_are_written_in_the_newest_version(rt: HostRuntime) -> Result<(), 
                 "427c752bd17e7c4c113e359707d3bacedf23640e5524e32ca21b71c9ab260332",
                 "ceb479bf50bbec4323627b5eb238c1a1b9a03e5b25719a7ba6ec40eab30a7179",
                 "e5a40f3339811ae67a200cbda4d86df0201de9c0a3701d05b70269973a5c9eb0",
-                "158625a68973b69f56dc1640e061eb0673ac140cfb7430730353ced374124023",
+                "2fbe14223e3ea0d726847349bdf1e119ebbb7bfac8e63a80b90f6ae46351df86",
             ],
         ),
         (
@@ -104,7 +104,7 @@ fn old_records_are_written_in_the_newest_version(rt: HostRuntime) -> Result<(), 
                 "9fa58e2cd116976a3a7a003c6c1f24eac04c445342aebaae5e997d0a8beb8eb8",
                 "91e5cc38d5ede5be187eb03505730e1f900bd3faa5d592e70f2f4e7bc3248d0d",
                 "b4a0f3469ba53b8a5cddca84c328601dbd5e6e818e8dd15a9d3937c15ae1a7e3",
-                "b1e4c6ae983fe00e6f7ab321d06e663204c5137c0f201f64da5ca37bf4458a0e",
+                "e3a41a37d570f15bd8a8362c0eccb295f3617622cbfd1ccfc33503c6ff80a46d",
             ],
         ),
     ];
@@ -115,29 +115,31 @@ fn old_records_are_written_in_the_newest_version(rt: HostRuntime) -> Result<(), 
 }
 
 /// Whether First's record with another first byte, and with what is put after its side, is damaged
-/// at this place, or nowhere, and in the newest version where that byte is 4.
+/// at this place, or nowhere, and in the newest version where that byte is 5.
 fn is_told(alloc: Global, byte: u8, format: Format, at: Option<usize>) -> Result<bool, Fail> {
     let text = with_format(alloc, FIRST, byte, format)?;
-    Ok(is_newest(&text) == (byte == 4) && is_damaged(alloc, &text, at)?)
+    Ok(is_newest(&text) == (byte == 5) && is_damaged(alloc, &text, at)?)
 }
 
 #[test]
 fn the_first_byte_tells_the_version(rt: HostRuntime) -> Result<(), Fail> {
     // the first byte, what is put after the side, and where the damage is
-    let rows: [(u8, Format, Option<usize>); 19] = [
+    let rows: [(u8, Format, Option<usize>); 21] = [
         (0, b"", Some(0)),
         (1, b"", None),
         (2, b"", None),
         (3, b"", Some(2)),
         (4, b"", Some(2)),
-        (5, b"", Some(0)),
+        (5, b"", Some(2)),
+        (6, b"", Some(0)),
         (255, b"", Some(0)),
         (0, b"\x01", Some(0)),
         (1, b"\x01", Some(86)),
         (2, b"\x01", Some(86)),
         (3, b"\x01", None),
         (4, b"\x01", Some(321)),
-        (5, b"\x01", Some(0)),
+        (5, b"\x01", Some(321)),
+        (6, b"\x01", Some(0)),
         (255, b"\x01", Some(0)),
         // the other formats of version 3
         (3, b"\x00", Some(2)),
