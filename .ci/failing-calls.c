@@ -1,15 +1,16 @@
 // Makes one call of a program on a file, a socket or the random source fail, or cuts it short. It is loaded before the C
 // library. FAILING_CALL is the number of the call, from 1, and FAILING_NAME its name, if only a call of this name is to fail;
 // FAILING_TIMES how many calls fail from this one on, if more than one; FAILING_HOW an error's number, or 0 for half of the
-// bytes and at most 100, -1 for one byte, -2 for none; and to the file FAILING_LOG goes a line for each call, with its name
-// and its descriptor. Where FAILING_MORE is set, calls that open, connect, wait, set and close are among them. Or it refuses
-// memory, where FAILING_ALLOCATION is set: to the allocation of this number, from 1 and since the program's beginning, and
-// where it is negative to those that follow too. Then each allocation has a line in the log, with its name, its size, and
-// whether the program asks for it or a library. Where FAILING_DURABLE names a folder, it has there of each file that is synced
-// what a power cut would leave: a sync that passes brings what was written since, and one that fails loses it, as a system
-// does that forgets what it couldn't write. FAILING_ORDER gets a line for each write at a place, with place and length, each
-// sync, and each file that may be made, with the mode that is asked for. It has no headers, as a compiler of the kit has none:
-// what it needs of the C library of Linux is declared here.
+// bytes and at most 100, -1 for one byte, -2 for none, -9 to end the program before it, as a kill does; and to the file
+// FAILING_LOG goes a line for each call, with its name and its descriptor. Where FAILING_MORE is set, calls that open,
+// connect, wait, set and close are among them. Or it refuses memory, where FAILING_ALLOCATION is set: to the allocation of
+// this number, from 1 and since the program's beginning, and where it is negative to those that follow too. Then each
+// allocation has a line in the log, with its name, its size, and whether the program asks for it or a library. Where
+// FAILING_DURABLE names a folder, it has there of each file that is synced what a power cut would leave: a sync that passes
+// brings what was written since, and one that fails loses it, as a system does that forgets what it couldn't write.
+// FAILING_ORDER gets a line for each write at a place, with place and length, each sync, and each file that may be made, with
+// the mode that is asked for. It has no headers, as a compiler of the kit has none: what it needs of the C library of Linux is
+// declared here.
 typedef __SIZE_TYPE__ size_t;
 typedef long ssize_t, off_t, off64_t;
 typedef unsigned mode_t, socklen_t;
@@ -38,9 +39,9 @@ void *dlsym(void *, const char *);
 #define errno (*__errno_location())
 enum { ENOMEM = 12, AT_FDCWD = -100, O_WRONLY = 1, O_CREAT = 0100, O_APPEND = 02000 };
 #ifdef __x86_64__
-enum { SYS_write = 1, SYS_close = 3, SYS_pwrite64 = 18, SYS_openat = 257 };
+enum { SYS_write = 1, SYS_close = 3, SYS_pwrite64 = 18, SYS_exit_group = 231, SYS_openat = 257 };
 #else
-enum { SYS_write = 64, SYS_close = 57, SYS_pwrite64 = 68, SYS_openat = 56 };
+enum { SYS_write = 64, SYS_close = 57, SYS_pwrite64 = 68, SYS_exit_group = 94, SYS_openat = 56 };
 #endif
 
 static long made;
@@ -53,6 +54,11 @@ static void note(const char *log, const char *line, int length) {
     }
 }
 
+static int how(void) {
+    const char *it = getenv("FAILING_HOW");
+    return it ? atoi(it) : 0;
+}
+
 // whether this call is the one; a line goes to the log
 static int is_it(const char *name, int fd) {
     const char *log = getenv("FAILING_LOG"), *number = getenv("FAILING_CALL"), *only = getenv("FAILING_NAME");
@@ -62,12 +68,10 @@ static int is_it(const char *name, int fd) {
     note(log, line, snprintf(line, sizeof line, "%s %d\n", name, fd));
     const char *times = getenv("FAILING_TIMES");
     long behind = number ? ++made - atol(number) : -1;
-    return behind >= 0 && behind < (times ? atol(times) : 1) && (!only || !strcmp(only, name));
-}
-
-static int how(void) {
-    const char *it = getenv("FAILING_HOW");
-    return it ? atoi(it) : 0;
+    int is_one = behind >= 0 && behind < (times ? atol(times) : 1) && (!only || !strcmp(only, name));
+    if (is_one && how() == -9)
+        syscall(SYS_exit_group, 137);
+    return is_one;
 }
 
 // what the C library has under a name

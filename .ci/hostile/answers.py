@@ -4,7 +4,7 @@ import hmac
 import re
 
 from hostile.formats import (
-    AWAITING, ITEMS, KEPT, LISTED, PACKETS, RECEIPTS, STORED_PACKET, TEXTS, Fault, Packet, is_name,
+    AWAITING, ITEMS, KEPT, LISTED, PACKETS, RECEIPTS, STORED_PACKET, TEXTS, Fault, Packet, Part, is_name,
 )
 
 
@@ -15,10 +15,14 @@ def quoted(text):
 # ---- a side
 
 
+def told(text):
+    return text.shown() if isinstance(text, Part) else f'"{quoted(text)}"'
+
+
 def shown(side, command):
     """The lines of state, inbox, outbox and awaiting."""
     if command == "inbox":
-        return "".join(f'{position} "{quoted(text)}"\n' for position, text in side.texts)
+        return "".join(f"{position} {told(text)}\n" for position, text in side.texts)
     if command == "outbox":
         return "".join(f"{position} {packet.hex()}\n" for position, packet in side.packets)
     if command == "awaiting":
@@ -190,6 +194,25 @@ def replied(boxes, body):
 # ---- a sync
 
 
+class Token:
+    """A key under which a sync asks, and the counter of the next request."""
+
+    def __init__(self, key):
+        self.key, self.counter = key, 1
+
+    def of(self, request):
+        return with_token(self.key, self.counter, request)
+
+
+def tokens_of(side):
+    """What a side asks its own box with, as its owner, and its peer's box, as who posts to it."""
+    if not side.keys:
+        return {}
+    at = {box: 64 * (box - 1) for box in (1, 2)}
+    own, peer = at[side.side], at[3 - side.side]
+    return {False: Token(side.keys[own : own + 32]), True: Token(side.keys[peer + 32 : peer + 64])}
+
+
 class Course:
     """A sync of a side over the bytes that a relay sends: its requests, its lines and its status."""
 
@@ -202,6 +225,7 @@ class Course:
         self.requests, self.lines, self.status = b"", [], 0
         name = side.session.hex().encode()
         self.own, self.peer = name + b"-%d" % side.side, name + b"-%d" % (3 - side.side)
+        self.tokens = tokens_of(side)
         try:
             came = self.take_items()
             self.post()
@@ -211,7 +235,21 @@ class Course:
             self.lines.append(fault.args[1])
 
     def ask(self, request, answers):
-        self.requests += frame(request)
+        """The reply to a request; where that is told its counter was an old one, the reply to it once more."""
+        token = self.tokens.get(request[0] == 1)
+        for again in (False, True):
+            self.requests += frame(token.of(request) if token else request)
+            kind, rest = self.reply(request, answers)
+            last = int.from_bytes(rest[1:9], "big")
+            if kind != 0x89:
+                if token:
+                    token.counter = min(token.counter + 1, 2**64 - 1)
+                return kind, rest
+            if not token or again or rest[0] != 3 or last == 2**64 - 1:
+                raise Fault(3, f"refused: Denied {rest[0]}")
+            token.counter = last + 1
+
+    def reply(self, request, answers):
         came, size = self.replies, int.from_bytes(self.replies[:2], "big")
         if len(came) >= 2 and not 1 <= size <= BODY:
             raise Fault(12, "peer: Frame at 0")
@@ -224,6 +262,8 @@ class Course:
         least, most = self.SIZES[kind]
         if not least <= len(rest) <= most or kind in self.REASONS and rest[:1] not in self.REASONS[kind]:
             raise Fault(12, "peer: Size at 3")
+        if kind == 0x89:
+            return kind, rest
         if kind == 0x86:
             raise Fault(3, "refused: Unknown")
         if kind not in answers or kind == 0x87 and rest != request[-8:]:
@@ -281,6 +321,8 @@ def bad_line(script):
         elif at == 2:
             lawful = re.fullmatch(rb"key [0-9a-fA-F]{64}", line)
         elif at == 3 and re.fullmatch(rb"format (plain|padded|receipts) (plain|padded|receipts)", line):
+            lawful = True
+        elif line == b"guard" and (at == 3 or at == 4 and lines[2].startswith(b"format")):
             lawful = True
         elif lawful := LINE.fullmatch(line):
             said = [lawful[it] for it in ("text", "stopped", "failed") if lawful[it] is not None]

@@ -164,18 +164,20 @@ def laid(image, found, record, kept, area=STATE_AREA):
 
 def rewritten(side, version):
     """A side's record in another version: from 3 on a byte says the format; from 4 on a byte after each position of the inbox
-    says a kind, and what waits stands at the end, which is nothing where the record didn't say it."""
+    says a kind, and what waits stands behind the outbox; from 5 on keys of boxes stand at the end. What the record doesn't say
+    is nothing."""
     text, at = side.record, 3 if side.version >= 3 else 2
     made = bytes([version, side.side]) + (bytes([side.format]) if version >= 3 else b"")
     for place in side.entries:
         made += text[at : place - (side.version >= 4)] + (b"\0" if version >= 4 else b"")
         at = place
     made += text[at : side.lists_end]
-    return made + (text[side.lists_end :] or b"\0") if version >= 4 else made
+    waits, keys = text[side.lists_end : side.waits_end], text[side.waits_end :]
+    return made + (waits or b"\0" if version >= 4 else b"") + (keys or b"\0" if version >= 5 else b"")
 
 
 def aged(image, version):
-    """A side's file with its record in an earlier version, where that may hold it but for what waits, or none."""
+    """A side's file with its record in an earlier version, where that may hold it but for what waits and for keys, or none."""
     found = found_in(image, STATE_AREA, Side)
     if found.record.format > FORMATS[version]:
         return None

@@ -8,11 +8,18 @@ KEPT, TEXTS, PACKETS, TEXT, AWAITING, LISTED = 512, 128, 32, 4096, 64, 32
 PLAIN, PADDED, RECEIPTS = 1, 2, 3  # versions of packets, and formats of a session
 # how many bytes a packet seals
 SEALED = {PLAIN: range(TEXT + 1), PADDED: range(256, 4353, 256), RECEIPTS: range(256, 4609, 256)}
-NEWEST = 4  # the version of a side's record that is written
+NEWEST = 5  # the version of a side's record that is written
 # most kept keys, texts and bytes of a text in each version
-LIMITS = {1: (256, 64, 1024), 2: (KEPT, TEXTS, TEXT), 3: (KEPT, TEXTS, TEXT), NEWEST: (KEPT, TEXTS, TEXT)}
-FORMATS = {1: PLAIN, 2: PLAIN, 3: PADDED, NEWEST: RECEIPTS}  # the last format, and version of packets, that each version has
+LIMITS = {1: (256, 64, 1024), 2: (KEPT, TEXTS, TEXT), 3: (KEPT, TEXTS, TEXT), 4: (KEPT, TEXTS, TEXT), 5: (KEPT, TEXTS, TEXT)}
+FORMATS = {1: PLAIN, 2: PLAIN, 3: PADDED, 4: RECEIPTS, 5: RECEIPTS}  # the last format, and version of packets, that each has
+BOX_KEYS = 128  # bytes of the keys of both boxes of a session: the owner's and the poster's of each
 ITEMS, STORED_PACKET = 64, 8000
+PARTS, PART = 64, 4090  # most parts of a long text, and bytes of one
+
+
+def is_part(text):
+    """Whether a content of kind 01 is a part: an id in 4 bytes, its number and how many there are, and its bytes."""
+    return 6 <= len(text) <= 6 + PART and 1 <= text[4] <= text[5] <= PARTS
 
 
 class Fault(Exception):
@@ -61,9 +68,16 @@ class Packet:
         fields.end("Long")
 
 
+class Part(bytes):
+    """A text of kind 01, which is a part of a long text."""
+
+    def shown(self):
+        return f"part {self[4]}/{self[5]} of {int.from_bytes(self[:4], 'big')}"
+
+
 class Side:
     """What a record keeps of a side; texts of the inbox as position and text. `entries` has where the text of each begins, with
-    its length before it, and `lists_end` where the outbox ends."""
+    its length before it, `lists_end` where the outbox ends, and `waits_end` where what waits does."""
 
     def __init__(self, record):
         fields = Fields(record)
@@ -94,6 +108,8 @@ class Side:
         self.packets = [self.packet_of(fields) for _ in range(fields.number(1, "", 0, PACKETS))]
         self.lists_end = fields.at
         self.awaiting = self.positions_of(fields) if self.version >= 4 else []
+        self.waits_end = fields.at
+        self.keys = fields.bytes(BOX_KEYS) if self.version >= 5 and fields.number(1, "", 0, 1) else None
         fields.end()
 
     def is_own(self, epoch):
@@ -117,10 +133,11 @@ class Side:
     def text_of(self, fields):
         epoch = int.from_bytes(fields.bytes(4, "", self.is_peers), "big")
         index = fields.number(4, "", 1, 65535)
-        if self.version >= 4:
-            fields.number(1, "", 0, 0)
+        kind = fields.number(1, "", 0, 1 if self.version >= 5 else 0) if self.version >= 4 else 0
         self.entries.append(fields.at)
-        return f"{epoch}.{index}", fields.bytes(fields.number(2, "", 0, self.most))
+        size = fields.number(2, "", 0, self.most)
+        text = fields.bytes(size, "", is_part if kind else lambda value: True)
+        return f"{epoch}.{index}", Part(text) if kind else text
 
     def positions_of(self, fields):
         """Positions of the side's own texts, ascending."""

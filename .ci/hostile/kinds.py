@@ -202,8 +202,11 @@ def try_replies(draw, folder, inputs):
     replies.append(frame(b"\x83"))
     replies += [frame(b"\x81" + number.to_bytes(8, "big")) for number in range(1, len(side.packets) + 1)]
     if draw.random() < 0.3:
-        other = bytes([draw.randrange(0x80, 0x8B)]) + draw.choice((b"", b"\2")) + draw.randbytes(draw.choice((0, 1, 8)))
+        other = bytes([draw.randrange(0x80, 0x8B)]) + draw.choice((b"", b"\2", b"\3")) + draw.randbytes(draw.choice((0, 1, 8)))
         replies.insert(draw.randrange(len(replies) + 1), frame(other))
+    for _ in range(draw.choice((0, 0, 0, 1, 2))):
+        old = frame(b"\x89\3" + draw.choice((bytes(8), b"\xff" * 8, b"\xff" * 7 + b"\xfe", draw.randbytes(8))))
+        replies.insert(draw.randrange(len(replies) + 1), old)
     stream = b"".join(replies)
     if draw.random() < 0.9:
         stream = changed(draw, stream, replies, beginnings(replies, (1, 2, 3)))
