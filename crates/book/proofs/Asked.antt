@@ -1,5 +1,5 @@
 -- The sessions of a fan that were asked in turn, one by one; and a list to which one is added.
-use Rattle.std.proofs.Common.{Err, List, None, Ok, Option, Result, Some, [], add-one, ap, arith, get_or, length, refl, subst, suc, sym, true, ℕ, ⊎_elim, ◌+◌, ◌++◌, ◌<◌, ◌∙◌, ◌∷◌, ◌≡◌, ◌≢◌}
+use Rattle.std.proofs.Common.{Err, List, None, Ok, Option, Result, Some, [], ap, arith, get_or, length, refl, subst, sym, true, ℕ, ⊎_elim, ◌+◌, ◌++◌, ◌<◌, ◌∙◌, ◌∷◌, ◌≡◌}
 use Rattle.std.proofs.Math.Seq.{get_or-append_seam}
 use Rattle.std.proofs.lemmas.Bool.{cases_eq}
 use Rattle.std.proofs.lemmas.List.{get_or_append_left, length_push}
@@ -15,7 +15,7 @@ use Rattle.client.specs.declared.refusals.SayRefusal.{SayRefusal}
 use Rattle.client.specs.declared.refusals.SayRefusal.TheVariants.{Closed, DrawFault, NoPair, Refused, StoreFault}
 use Rattle.book.specs.Fanning.{IsUnlisted}
 use Rattle.book.specs.Fans.{AllSay, Answers, AreAsked, AreListed, Asks, IsFanList, Says, fan_of, key_bytes, none_asked, one_more}
-use Rattle.book.specs.Naming.{IsPlaceOf, is_named}
+use Rattle.book.specs.Naming.{is_named}
 use Rattle.book.specs.RowKeepings.{kept_of, row_at}
 use Rattle.book.specs.Stepping.{WasDrawn}
 use Rattle.book.specs.declared.fans.list.TheConstants.{FAN_LIMIT}

@@ -1,10 +1,10 @@
 -- A session is begun in the lowest absent row, or the row of a name is made absent.
-use Rattle.std.proofs.Common.{Bool, Err, List, None, Ok, Option, Some, [], ap, ap₂, false, get_or, refl, subst, suc, sym, true, zero, ℕ, ◌∙◌, ◌<◌, ◌∷◌, ◌≡◌, ◌≢◌}
+use Rattle.std.proofs.Common.{Bool, List, None, Ok, Option, Some, [], ap, ap₂, false, get_or, refl, subst, suc, sym, true, zero, ℕ, ◌∙◌, ◌<◌, ◌∷◌, ◌≡◌}
 use Rattle.std.proofs.Math.ListN.{set}
 use Rattle.std.specs.Prelude.{IsNone, IsSome, if◌then◌else◌, is_some, option_map}
 use Rattle.std.specs.Str.{bytes_eq}
 use Rattle.book_model.proofs.Names.{same_self}
-use Rattle.book_model.specs.Rows.{Row, Rows, begun, is_full, under, without}
+use Rattle.book_model.specs.Rows.{Row, Rows, begun, under, without}
 use Rattle.book_model.specs.Runs.{went_step, replied}
 use Rattle.book_model.specs.Steps.{begins, begins_in, forgets, forgets_in, forgotten, has_begun, name_taken, no_pair, opened_if, opened_in}
 use Rattle.book_store.specs.Shown.{BookRow}
@@ -18,11 +18,10 @@ use Rattle.session_record.specs.Record.{record_text}
 use Rattle.client.specs.Beginning.{HasPair, begun_client}
 use Rattle.client.specs.declared.begin.Begin.{Begin}
 use Rattle.book.specs.Beginning.{ChangesBook, HasPlaceFor}
-use Rattle.book.specs.Books.{BookNow, IsBookReady, IsStoreReady}
+use Rattle.book.specs.Books.{BookNow, IsBookReady}
 use Rattle.book.specs.Changing.{TakesPlaceOf}
-use Rattle.book.specs.Machines.{IsStep, asked_under, sessions_of}
-use Rattle.book.specs.Naming.{HasNone, IsFree, IsPlaceOf, is_named}
-use Rattle.book.specs.RowKeepings.{kept_of}
+use Rattle.book.specs.Machines.{IsStep, asked_under}
+use Rattle.book.specs.Naming.{HasNone, IsPlaceOf, is_named}
 use Rattle.book.specs.Rows.{stored, stored_row}
 use Rattle.book.proofs.Counted.{inside}
 use Rattle.book.proofs.Only.{held_at, only}

@@ -1,6 +1,5 @@
 -- A call on the row in use, as a call on that row of the book.
-use Rattle.std.proofs.Common.{Bool, Err, List, Ok, Result, ap, false, refl, subst, sym, true, ℕ, ◌∙◌, ◌≡◌}
-use Rattle.std.specs.Prelude.{IfOk, OnOk, Option, length}
+use Rattle.std.proofs.Common.{Bool, Result, ap, false, subst, true, ℕ, ◌∙◌, ◌≡◌}
 use Rattle.dr_base.specs.declared.position.Position.{Position}
 use Rattle.dr_disk.specs.State.{DiskState}
 use Rattle.dr_model.specs.Machines.Steps.{Step, has_effect}

@@ -8,18 +8,17 @@ use Rattle.dr_disk.specs.State.{Always, DiskState, IsLawful}
 use Rattle.dr_disk.proofs.Calling.{failed_at_first, failed_later, passed_both}
 use Rattle.dr_disk.proofs.Steps.{spans, widen}
 use Rattle.pages.specs.Runs.{CameNext}
-use Rattle.pages.specs.Stops.{put_call, put_shows, put_took, puts, retire_call}
+use Rattle.pages.specs.Stops.{put_call, puts, retire_call}
 use Rattle.pages.proofs.Around.{around_twice, reads_both}
 use Rattle.pages.proofs.NextCalls.{came_first, came_later}
 use Rattle.pages.proofs.Stopping.{shows_true, took_true}
 use Rattle.book_store.specs.AtRest.{IsBookMarked}
-use Rattle.book_store.specs.Committing.{CommitsRows, HasRetired, IsBookStopped, IsOldOrNewBook, KeepsOutsideBook, KeepsRows, ReadsOutsideBook, call_of}
+use Rattle.book_store.specs.Committing.{CommitsRows, HasRetired, IsBookStopped, IsOldOrNewBook, KeepsRows, ReadsOutsideBook, call_of}
 use Rattle.book_store.specs.Layout.{HasBook, book_layout}
 use Rattle.book_store.specs.Shown.{BookRow, stored_rows}
 use Rattle.book_store.specs.Store.{BookStore, all_drops, committed, retire_calls, retired}
 use Rattle.book_store.specs.declared.layout.TheConstants.{BOOK_ROWS}
 use Rattle.book_store.specs.declared.errors.StoreFault.{StoreFault}
-use Rattle.book.specs.Books.{IsStoreReady}
 use Rattle.book.specs.Changing.{TakesPlaceOf, change_call}
 
 -- ---- which call came next

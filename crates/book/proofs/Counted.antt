@@ -1,11 +1,9 @@
 -- How many calls it takes to put a record into the place of another in a row, and which they are.
-use Rattle.std.proofs.Common.{Bool, List, None, Option, Some, [], ap, ap₂, arith, false, get_or, length, replicate, suc, sym, true, zero, ℕ, ⊎_elim, ◌+◌, ◌*◌, ◌-◌, ◌<◌, ◌≤◌, ◌∙◌, ◌∷◌, ◌≡◌, ◌≢◌, ◌++◌, subst, refl}
-use Rattle.std.proofs.Math.ListN.{set}
+use Rattle.std.proofs.Common.{Bool, List, None, Option, Some, [], ap, ap₂, arith, false, get_or, length, replicate, suc, sym, true, zero, ℕ, ⊎_elim, ◌+◌, ◌*◌, ◌-◌, ◌<◌, ◌≤◌, ◌∙◌, ◌≡◌, ◌≢◌, ◌++◌, refl}
 use Rattle.std.proofs.lemmas.Bool.{cases_eq}
 use Rattle.std.proofs.lemmas.Bool.Decides.{nat_tests}
 use Rattle.std.proofs.lemmas.List.{get_or-set_other, get_or-set_same, length-append, length-map, length-replicate}
 use Rattle.std.specs.Prelude.{if◌then◌else◌, nat_lt, not, ◌==◌}
-use Rattle.dr_disk.specs.declared.call.Call.{Call}
 use Rattle.pages.specs.Stops.{put_call, puts, retire_call, retires}
 use Rattle.record_pages.specs.Pages.{pages_in}
 use Rattle.record_pages.specs.Plans.{changed, dropped}
@@ -13,9 +11,8 @@ use Rattle.record_pages.proofs.Dropped.{dropped_count}
 use Rattle.record_pages.proofs.Filled.{pages_in_long}
 use Rattle.slot_store.specs.Stops.{call_after, calls_of, wipes_of, writes_of}
 use Rattle.book_store.specs.AtRest.{IsBookMarked, row_mark, row_marks, row_pages}
-use Rattle.book_store.specs.Marks.{IsRowMark, RowMark}
 use Rattle.book_store.specs.Rows.{names_by, shifted}
-use Rattle.book_store.specs.Shown.{BookRow, absent}
+use Rattle.book_store.specs.Shown.{BookRow}
 use Rattle.book_store.specs.Store.{BookStore, IsNewName, all_drops, drops_at, numbers_at, numbers_of, pages_at, with_row, writes_at}
 use Rattle.book_store.specs.declared.layout.TheConstants.{BOOK_ROWS, ROW_PAGES}
 use Rattle.book_store.proofs.Books.Listed.{mark_at, marks_long}

@@ -1,5 +1,5 @@
 -- A fan is an event of the machine of named rows: each of its calls is done on the rows as the ones before left them.
-use Rattle.std.proofs.Common.{Bool, Err, List, None, Ok, Option, Result, Some, [], ap, arith, false, get_or, length, refl, subst, suc, sym, true, zero, ℕ, ⊎_elim, ◌+◌, ◌<◌, ◌≤◌, ◌∙◌, ◌∷◌, ◌≡◌, ◌≢◌}
+use Rattle.std.proofs.Common.{Err, List, None, Ok, Option, Result, Some, [], ap, arith, false, get_or, length, refl, subst, suc, sym, true, zero, ℕ, ⊎_elim, ◌+◌, ◌<◌, ◌≤◌, ◌∙◌, ◌∷◌, ◌≡◌}
 use Rattle.std.proofs.Math.ListN.{set}
 use Rattle.std.proofs.lemmas.Bool.{cases_eq}
 use Rattle.std.proofs.lemmas.List.{get_or-set_other, get_or-set_same}
@@ -13,11 +13,11 @@ use Rattle.dr_disk.specs.State.{DiskState}
 use Rattle.dr_ports.specs.States.{DrawsState}
 use Rattle.book_store.specs.declared.errors.StoreFault.{StoreFault}
 use Rattle.dr_disk.specs.declared.call.Call.{Call}
-use Rattle.dr_model.specs.Machines.Acts.{act_on, said_by, saying, saying_by}
+use Rattle.dr_model.specs.Machines.Acts.{said_by, saying, saying_by}
 use Rattle.dr_model.specs.Machines.Draws.{given_or}
 use Rattle.kem_laws.specs.Mechanism.{Mechanism}
 use Rattle.ratchet.specs.Seen.{seed_bytes}
-use Rattle.session_model.specs.Clients.{Client, SaidText, say_check, say_on}
+use Rattle.session_model.specs.Clients.{Client, SaidText, say_on}
 use Rattle.session_model.specs.Contents.{text_content}
 use Rattle.session_model.specs.declared.answer.Answer.TheVariants.{Said}
 use Rattle.session_model.specs.declared.answer.Refusal.{Refusal}
@@ -25,7 +25,7 @@ use Rattle.book.specs.Books.{BookNow, IsBookReady, MayBookAct}
 use Rattle.book.specs.Fanning.{AsksAndFans, FansIn}
 use Rattle.book.specs.Fans.{AllSay, AreListed, Fan, IsFanList, Says, fan_of, fan_place, fan_row, fan_seed, fanned_rows, key_bytes, said_next, said_or, said_row}
 use Rattle.client.specs.declared.begin.Begin.{Begin}
-use Rattle.book.specs.FanStepping.{FansAsStep, IsFanStep, fan_call, fan_calls}
+use Rattle.book.specs.FanStepping.{FansAsStep, IsFanStep, fan_calls}
 use Rattle.book.specs.Machines.{RowAnswer, RowCall, acted, acts, done_as, row_does, sessions_of}
 use Rattle.book.specs.Naming.{IsPlaceOf, is_named}
 use Rattle.book.specs.RowKeepings.{kept_of, known_name, name_of, with_kept}

@@ -1,8 +1,7 @@
 -- The records of all sessions of a fan are staged and settled, and then the sessions say the text.
-use Rattle.std.proofs.Common.{Err, List, None, Ok, Option, Result, Some, ap, arith, get_or, length, refl, subst, sym, ℕ, ◌≤◌, ◌∙◌, ◌≡◌, [], zero, suc, ◌<◌, ◌∷◌}
+use Rattle.std.proofs.Common.{Err, List, None, Ok, Option, Result, ap, arith, length, refl, subst, sym, ℕ, ◌≤◌, ◌∙◌, ◌≡◌, ◌<◌}
 use Rattle.dr_disk.specs.Spans.{Span}
 use Rattle.dr_disk.specs.State.{Always, DiskState, IsLawful}
-use Rattle.dr_disk.specs.declared.call.Call.{Call}
 use Rattle.book_model.specs.Rows.{Rows}
 use Rattle.book_store.specs.Committing.{IsOldOrNewBook, KeepsRows, ReadsOutsideBook}
 use Rattle.book_store.specs.Layout.{HasBook}

@@ -1,5 +1,5 @@
 -- The records of a fan's sessions are staged, one after the other.
-use Rattle.std.proofs.Common.{Err, Ok, Option, add-one, arith, length, refl, subst, suc, sym, ℕ, ◌+◌, ◌-◌, ◌<◌, ◌≤◌, ◌∙◌, ◌≡◌, ap}
+use Rattle.std.proofs.Common.{Err, Ok, arith, length, refl, subst, suc, ℕ, ◌+◌, ◌-◌, ◌<◌, ◌≤◌, ◌∙◌, ◌≡◌, ap}
 use Rattle.dr_disk.specs.Called.{Called}
 use Rattle.dr_disk.specs.Spans.{Span}
 use Rattle.dr_disk.specs.State.{Always, DiskState}
@@ -9,7 +9,7 @@ use Rattle.dr_disk.proofs.Steps.{stays}
 use Rattle.pages.specs.Runs.{CameNext, only}
 use Rattle.pages.proofs.Around.{around_first, reads_both, reads_same}
 use Rattle.pages.proofs.NextCalls.{came_later}
-use Rattle.book_store.specs.Committing.{HasRows, KeepsRows, ReadsOutsideBook, StagesRow, call_of}
+use Rattle.book_store.specs.Committing.{HasRows, KeepsRows, ReadsOutsideBook, call_of}
 use Rattle.book_store.specs.Layout.{book_layout}
 use Rattle.book_store.specs.Staging.{IsStagedOver}
 use Rattle.book_store.specs.Store.{BookStore}

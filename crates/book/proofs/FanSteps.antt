@@ -1,5 +1,5 @@
 -- One step of the loops over a fan's sessions, in the words of the loop.
-use Rattle.std.proofs.Common.{Err, List, None, Ok, Option, add-one, ap, arith, get_or, length, refl, subst, suc, sym, true, ℕ, ◌+◌, ◌<◌, ◌≤◌, ◌∙◌, ◌≡◌}
+use Rattle.std.proofs.Common.{Err, List, None, Ok, Option, add-one, ap, arith, get_or, length, refl, subst, suc, sym, true, ℕ, ◌+◌, ◌<◌, ◌∙◌, ◌≡◌}
 use Rattle.std.proofs.Math.ListN.{set}
 use Rattle.std.specs.Prelude.{is_some, [], ◌++◌, ◌∷◌}
 use Rattle.book_model.specs.Rows.{Row, Rows}

@@ -1,13 +1,12 @@
 -- The rows of a fan's sessions, and a store in which their records are staged one after the other.
-use Rattle.std.proofs.Common.{Bool, List, None, Option, Some, [], ap, arith, add-one, false, get_or, length, refl, subst, suc, sym, true, zero, ℕ, ⊎_elim, ◌+◌, ◌<◌, ◌≤◌, ◌∙◌, ◌≡◌, ◌≢◌}
+use Rattle.std.proofs.Common.{List, None, Option, Some, [], ap, arith, false, get_or, length, refl, subst, suc, sym, true, zero, ℕ, ⊎_elim, ◌+◌, ◌<◌, ◌≤◌, ◌∙◌, ◌≡◌, ◌≢◌}
 use Rattle.std.proofs.Math.ListN.{set}
 use Rattle.std.proofs.lemmas.Bool.{cases_eq}
 use Rattle.std.proofs.lemmas.List.{get_or-set_other, get_or-set_same, length-set}
 use Rattle.std.specs.Prelude.{is_some}
-use Rattle.book_model.specs.Rows.{Row, Rows}
+use Rattle.book_model.specs.Rows.{Row}
 use Rattle.book_store.specs.Shown.{BookRow}
 use Rattle.book_store.specs.Store.{BookStore, IsNewName, IsUnstaged}
-use Rattle.book_store.specs.declared.layout.TheConstants.{BOOK_ROWS}
 use Rattle.dr_disk.specs.State.{DiskState}
 use Rattle.kem_laws.specs.Mechanism.{Mechanism}
 use Rattle.session_model.specs.Clients.{Client}

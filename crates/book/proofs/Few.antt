@@ -1,5 +1,5 @@
 -- How many writes and syncs it takes at most to bring rows up to the newest version.
-use Rattle.std.proofs.Common.{Bool, Err, List, None, Ok, Option, Result, Some, [], ap, arith, false, get_or, length, refl, replicate, subst, suc, sym, true, zero, ℕ, ◌+◌, ◌*◌, ◌<◌, ◌≤◌, ◌∙◌, ◌∷◌, ◌++◌, ◌≡◌}
+use Rattle.std.proofs.Common.{Bool, Err, List, None, Ok, Option, Result, Some, [], ap, arith, false, get_or, length, refl, replicate, subst, suc, sym, true, zero, ℕ, ◌+◌, ◌*◌, ◌≤◌, ◌∙◌, ◌∷◌, ◌≡◌}
 use Rattle.std.proofs.Math.ListN.{set}
 use Rattle.std.proofs.lemmas.List.{length-append, length-map, length-take}
 use Rattle.std.specs.Prelude.{Vec, if◌then◌else◌, take}
@@ -11,7 +11,7 @@ use Rattle.dr_disk.specs.declared.call.Call.TheVariants.{Read, Sync, Write}
 use Rattle.pages.specs.Counted.{MakesAtMost, missed, one_of}
 use Rattle.pages.specs.Stops.{puts, retires}
 use Rattle.record_pages.specs.Pages.{page_count, pages_in}
-use Rattle.record_pages.specs.Plans.{changed, dropped}
+use Rattle.record_pages.specs.Plans.{dropped}
 use Rattle.record_pages.proofs.Dropped.{dropped_count}
 use Rattle.record_pages.proofs.Filled.{count_least, pages_in_long}
 use Rattle.record_pages.proofs.Renumbered.{changed_few}

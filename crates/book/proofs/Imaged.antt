@@ -1,5 +1,5 @@
 -- What images have at the row of a name, and beside it, while the row changes.
-use Rattle.std.proofs.Common.{List, Option, Some, ap, inl, inr, sym, ⊎_elim, Bool, true, false, refl, subst, ℕ, ◌-◌, ◌∙◌, ◌≡◌, ◌⊎◌}
+use Rattle.std.proofs.Common.{List, Option, Some, ap, inl, inr, sym, ⊎_elim, Bool, true, false, refl, ℕ, ◌-◌, ◌∙◌, ◌≡◌, ◌⊎◌}
 use Rattle.std.specs.Prelude.{if◌then◌else◌}
 use Rattle.dr_disk.specs.Spans.{Span}
 use Rattle.dr_disk.specs.State.{Always, DiskState, IsLawful}

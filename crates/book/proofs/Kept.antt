@@ -1,5 +1,5 @@
 -- The record of a row took the place of the one before it, or did not.
-use Rattle.std.proofs.Common.{Err, List, None, Ok, Option, Result, Some, ap, ap₂, get_or, refl, subst, sym, ℕ, ◌+◌, ◌-◌, ◌<◌, ◌∙◌, ◌≡◌}
+use Rattle.std.proofs.Common.{Err, List, None, Ok, Option, Result, Some, ap, ap₂, get_or, subst, sym, ℕ, ◌+◌, ◌-◌, ◌<◌, ◌∙◌, ◌≡◌}
 use Rattle.std.proofs.Math.ListN.{set}
 use Rattle.std.proofs.lemmas.List.{get_or-set_same, set-set}
 use Rattle.std.specs.Prelude.{is_some, option_map}

@@ -16,9 +16,10 @@ mod Opened
 pub mod AsRead
 mod Said
 mod Runs
-mod Fanned
-mod Asked
+pub mod Fanned
+pub mod Asked
 mod FanStaged
 mod FanSteps
 mod FanPut
-mod FanMachine
+pub mod FanMachine
+pub mod FanListed

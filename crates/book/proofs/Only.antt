@@ -1,5 +1,5 @@
 -- In a book at rest no two rows have one name.
-use Rattle.std.proofs.Common.{Bool, List, None, Option, Some, [], ap, arith, false, get_or, length, refl, subst, sym, true, ℕ, ◌<◌, ◌∙◌, ◌≡◌, ◌≢◌}
+use Rattle.std.proofs.Common.{Bool, List, None, Option, Some, [], ap, arith, false, get_or, length, refl, subst, sym, true, ℕ, ◌∙◌, ◌≡◌, ◌≢◌}
 use Rattle.std.specs.Str.{bytes_eq}
 use Rattle.book_model.proofs.Names.{same_is, same_self}
 use Rattle.book_model.specs.Rows.{Row, Rows}

@@ -1,9 +1,8 @@
 -- What stands under a name, by the place of the row that has it.
-use Rattle.std.proofs.Common.{Bool, List, None, Option, Some, [], ap, arith, false, get_or, length, refl, suc, sym, true, zero, ℕ, ◌<◌, ◌∙◌, ◌∷◌, ◌≡◌, ◌≢◌}
+use Rattle.std.proofs.Common.{List, None, Option, Some, [], ap, arith, false, get_or, length, refl, suc, sym, true, zero, ℕ, ◌<◌, ◌∙◌, ◌∷◌, ◌≡◌, ◌≢◌}
 use Rattle.std.proofs.Math.ListN.{set}
 use Rattle.std.specs.Prelude.{if◌then◌else◌, is_some}
 use Rattle.std.specs.Str.{bytes_eq}
-use Rattle.book_model.proofs.Names.{same_is}
 use Rattle.book_model.specs.Rows.{Row, Rows, begun, is_full, keeping, under, without}
 use Rattle.book.specs.Naming.{HasNone, IsFree, IsPlaceOf, is_named}
 

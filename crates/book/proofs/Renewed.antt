@@ -1,5 +1,5 @@
 -- Rows are staged in the newest version, one after the other.
-use Rattle.std.proofs.Common.{Bool, List, None, Ok, Option, Some, [], ap, arith, false, get_or, inl, length, refl, subst, suc, sym, true, zero, ℕ, ⊎_elim, ◌+◌, ◌-◌, ◌<◌, ◌≤◌, ◌∙◌, ◌∷◌, ◌++◌, ◌≡◌, map}
+use Rattle.std.proofs.Common.{Bool, List, None, Ok, Option, Some, [], ap, arith, false, get_or, inl, length, refl, subst, suc, sym, true, zero, ℕ, ⊎_elim, ◌+◌, ◌-◌, ◌<◌, ◌≤◌, ◌∙◌, ◌≡◌, map}
 use Rattle.std.proofs.Math.ListN.{set}
 use Rattle.std.proofs.lemmas.Bool.{cases_eq, cases_lt}
 use Rattle.std.proofs.lemmas.List.{get_or-set_other, get_or-set_same, get_or_past, ext_get_or, length-append, length-map, length-set}
@@ -10,7 +10,6 @@ use Rattle.dr_disk.proofs.Calling.{none_made, then_passed}
 use Rattle.dr_disk.proofs.Steps.{stays, widen}
 use Rattle.pages.proofs.Around.{around_first, reads_both, reads_same}
 use Rattle.book_model.specs.Rows.{Row, Rows}
-use Rattle.book_store.specs.AtRest.{IsBookMarked}
 use Rattle.book_store.specs.Committing.{HasRows, IsOldOrNewBook, KeepsRows, ReadsOutsideBook, StagesRow, call_of}
 use Rattle.book_store.specs.declared.errors.StoreFault.{StoreFault}
 use Rattle.book_store.specs.Layout.{book_layout}

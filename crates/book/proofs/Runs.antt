@@ -1,5 +1,5 @@
 -- Calls of a book, one after the other, are a run of the machine of named rows.
-use Rattle.std.proofs.Common.{List, None, Option, [], ap, false, map, refl, subst, sym, ℕ, ◌∙◌, ◌∷◌, ◌≡◌}
+use Rattle.std.proofs.Common.{List, None, Option, [], ap, map, refl, subst, sym, ℕ, ◌∙◌, ◌∷◌, ◌≡◌}
 use Rattle.std.specs.Prelude.{is_some}
 use Rattle.book_model.specs.Independence.{AllWentWell, asked_of, replies_of}
 use Rattle.book_model.specs.Rows.{under}

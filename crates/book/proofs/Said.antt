@@ -1,5 +1,5 @@
 -- A text that is said is a step of the machine, with what was drawn for it.
-use Rattle.std.proofs.Common.{Err, List, None, Ok, Option, Result, Some, ap, length, ℕ, ◌≡◌}
+use Rattle.std.proofs.Common.{Err, List, None, Ok, Option, Result, Some, ap, ℕ, ◌≡◌}
 use Rattle.dr_base.specs.declared.position.Position.{Position}
 use Rattle.dr_disk.specs.State.{DiskState}
 use Rattle.dr_model.specs.Machines.Acts.{act_on, saying}

@@ -4,9 +4,8 @@ use Rattle.std.specs.Prelude.{OnErr, if◌then◌else◌, nat_le, nat_lt, ◌&&�
 use Rattle.std.proofs.lemmas.Bool.Decides.{nat_tests}
 use Rattle.std.proofs.lemmas.List.{get_or-replicate}
 use Rattle.dr_disk.specs.Called.{Called}
-use Rattle.dr_disk.specs.Spans.{HavePassed, Span}
+use Rattle.dr_disk.specs.Spans.{Span}
 use Rattle.dr_disk.specs.State.{Always, DiskState, IsLawful}
-use Rattle.dr_disk.specs.declared.call.Call.{Call}
 use Rattle.dr_disk.specs.declared.call.Call.TheVariants.{Write}
 use Rattle.dr_disk.specs.declared.call.Mode.{Mode}
 use Rattle.dr_disk.proofs.Calling.{failed_at_first, failed_later, passed_both}
@@ -15,7 +14,7 @@ use Rattle.pages.specs.Runs.{CameNext, FailsBy, only}
 use Rattle.pages.specs.Stops.{opens, put_call, put_shows, put_took, puts, retire_call}
 use Rattle.pages.proofs.Around.{reads_both}
 use Rattle.pages.proofs.NextCalls.{came_first, came_later, put_page, put_rest}
-use Rattle.book_store.specs.Committing.{IsBookStopped, IsOldOrNewBook, KeepsRows, ReadsOutsideBook, StagesRow, call_of}
+use Rattle.book_store.specs.Committing.{IsBookStopped, IsOldOrNewBook, KeepsRows, ReadsOutsideBook, call_of}
 use Rattle.book_store.specs.Layout.{book_layout}
 use Rattle.book_store.specs.Shown.{BookRow}
 use Rattle.book_store.specs.Store.{BookStore, IsUnstaged, all_drops}

@@ -1,9 +1,8 @@
 -- An act of a row's session is a step of the machine of named rows.
-use Rattle.std.proofs.Common.{Bool, Err, List, None, Ok, Option, Result, Some, ap, ap₂, false, get_or, refl, subst, sym, true, ℕ, ◌∙◌, ◌≡◌}
+use Rattle.std.proofs.Common.{Bool, Err, List, None, Ok, Option, Result, Some, ap, false, get_or, refl, subst, sym, true, ℕ, ◌∙◌, ◌≡◌}
 use Rattle.std.proofs.Math.ListN.{set}
 use Rattle.std.proofs.lemmas.List.{set-get_or, set-set}
 use Rattle.std.specs.Prelude.{if◌then◌else◌, is_some}
-use Rattle.std.specs.Str.{bytes_eq}
 use Rattle.book_model.proofs.Names.{same_is}
 use Rattle.book_model.specs.Rows.{Row, Rows, keeping, under}
 use Rattle.book_model.specs.Runs.{Book, Event, Went, asks, befallen, goes, happens_if, is_look_in, replied, went_step}

@@ -1,5 +1,5 @@
 -- A session is begun under a name.
-use Rattle.std.specs.Prelude.{Err, IfErr, IsNone, IsSome, List, None, Ok, OnErr, OnOk, Option, Result, Some, false, length, true, ℕ, ◌≡◌}
+use Rattle.std.specs.Prelude.{Err, IfErr, IsNone, IsSome, List, None, Ok, OnErr, OnOk, Result, Some, false, length, true, ℕ, ◌≡◌}
 use Rattle.book_model.specs.Rows.{Rows, begun, is_full, under}
 use Rattle.book_store.specs.Store.{BookStore, with_row, writes_at}
 use Rattle.book_store.specs.declared.errors.StoreFault.{StoreFault}

@@ -1,5 +1,5 @@
 -- What a call under a name answers and does.
-use Rattle.std.specs.Prelude.{Err, IfOk, List, None, Ok, OnOk, Option, Result, Some, length, ℕ, ◌≡◌}
+use Rattle.std.specs.Prelude.{Err, IfOk, List, None, Ok, OnOk, Option, Result, Some, ℕ, ◌≡◌}
 use Rattle.book_model.specs.Rows.{under}
 use Rattle.dr_base.specs.declared.position.Position.{Position}
 use Rattle.dr_base.specs.declared.position.Side.{Side}

@@ -1,9 +1,10 @@
 -- A fan: sessions of a book that say one text, all of them or none, and what each of them is asked.
-use Rattle.std.specs.Prelude.{Err, IsOk, List, None, Ok, Option, Result, Some, [], get_or, is_some, length, option_map, slice_set, suc, true, zero, ℕ, ◌+◌, ◌++◌, ◌<◌, ◌∷◌, ◌≡◌, ◌≢◌, ◌≤◌}
+use Rattle.std.specs.Prelude.{Err, IsOk, List, None, Ok, Option, Result, Some, [], get_or, if◌then◌else◌, is_some, length, nat_lt, option_map, slice_set, suc, true, zero, ℕ, ◌+◌, ◌++◌, ◌<◌, ◌∷◌, ◌≡◌, ◌≢◌, ◌≤◌}
 use Rattle.book_model.specs.Rows.{Row, Rows}
 use Rattle.book_store.specs.Store.{BookStore, with_row, writes_at}
 use Rattle.dr_base.specs.Causes.{Rose}
 use Rattle.dr_base.specs.declared.key.Key32.{Key32}
+use Rattle.dr_base.specs.declared.position.Position.{Position}
 use Rattle.dr_ports.specs.States.{DrawsState}
 use Rattle.kem_laws.specs.Mechanism.{Mechanism}
 use Rattle.ratchet.specs.Seen.{seed_bytes}
@@ -12,6 +13,7 @@ use Rattle.session_model.specs.Contents.{text_content}
 use Rattle.session_model.specs.declared.answer.Refusal.{Refusal}
 use Rattle.session_model.specs.declared.answer.Refusal.TheVariants.{NoPair as HasNoPair}
 use Rattle.session_record.specs.Record.{record_text}
+use Rattle.client.specs.LastSaid.{last_said}
 use Rattle.client.specs.declared.refusals.SayRefusal.{SayRefusal}
 use Rattle.client.specs.declared.refusals.SayRefusal.TheVariants.{Closed, DrawFault, NoPair, Refused, StoreFault}
 use Rattle.book.specs.RowKeepings.{kept_of, known_name, name_of, row_at, with_kept}
@@ -29,6 +31,12 @@ pub record IsFanList (list : List ℕ) : Type 0 where
 abbrev pub AreListed : Rows Client → List ℕ → Type 0
 AreListed rows list =
     (i : ℕ) → i < length list → is_some (row_at rows (get_or list i 0)) ≡ true
+
+-- where the latest own text stands of the session at a place of a list, if it has such a place
+abbrev pub said_at : Rows Client → List ℕ → ℕ → Option Position
+said_at rows list at =
+    if nat_lt at (length list) then last_said (kept_of (row_at rows (get_or list at 0))).state
+    else None
 
 -- ---- what a session is asked
 

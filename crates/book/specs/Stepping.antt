@@ -3,7 +3,7 @@ use Rattle.std.specs.Prelude.{Err, List, None, Ok, Option, Result, Some, [], len
 use Rattle.book_model.specs.Steps.{bad_name, book_full, calls, closed as is_shut, fails, forgotten, has_begun, name_taken, no_memory, no_name, no_pair, store_fault}
 use Rattle.book_model.specs.Runs.{replied}
 use Rattle.dr_base.specs.declared.position.Position.{Position}
-use Rattle.dr_model.specs.Machines.Acts.{Act, dropping, saying, taking}
+use Rattle.dr_model.specs.Machines.Acts.{dropping, saying, taking}
 use Rattle.dr_ports.specs.Seeds.{drawn}
 use Rattle.dr_ports.specs.States.{DrawsState}
 use Rattle.kem_laws.specs.Mechanism.{Mechanism}

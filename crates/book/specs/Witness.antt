@@ -1,7 +1,7 @@
 -- Two runs that have all in common for one name, and nothing for any other.
-use Rattle.std.specs.Prelude.{List, None, Option, Some, [], false, map, ℕ, ◌∷◌}
+use Rattle.std.specs.Prelude.{List, None, Option, Some, [], false, ℕ, ◌∷◌}
 use Rattle.book_model.specs.Rows.{Row}
-use Rattle.book_model.specs.Runs.{Book, Event, Happened, asks}
+use Rattle.book_model.specs.Runs.{Book, Event, asks}
 use Rattle.book_model.specs.Steps.{Ask, Reply, answers, calls, forgets, forgotten, no_name}
 use Rattle.session_model.specs.Clients.{Client, summary_of}
 use Rattle.session_model.specs.declared.answer.Refusal.{Refusal}

@@ -1,8 +1,9 @@
 //! A row that is present: a session under its name.
 
-ghost use Rattle.std.specs.Prelude.{◌≡◌, ◌<◌, ℕ, IfSome, MatchOption, None, Ok, IfOk, IfErr, OnOk, Some, get_or, is_some, length, true};
+ghost use Rattle.std.specs.Prelude.{◌≡◌, ◌<◌, ◌≤◌, ℕ, IfSome, MatchOption, None, Ok, IfOk, IfErr, OnOk, Some, get_or, is_some, length, true};
 ghost use Rattle.book_model.specs.Rows.{Rows, under};
 ghost use Rattle.ratchet.specs.Seen.{seed_bytes};
+ghost use Rattle.relay_wire.specs.declared.limits.TheConstants.{NAME_LIMIT};
 ghost use Rattle.session_model.specs.Clients.{Client, accept_send, say_check, say_on};
 ghost use Rattle.session_model.specs.Contents.{content_with};
 ghost use Rattle.client.specs.Drafting.{DraftsFor, IsReceivedOf, IsSaidOf, said_if};
@@ -50,9 +51,14 @@ pub(crate) fn core_of<K: Kem>(row: &Option<Row<K>>) -> &Core<K>
 pub(crate) fn row_name<K: Kem>(row: &Option<Row<K>>) -> Option<&str>
     ensures variant { is_some result ≡ is_some row.now }
     ensures value { IfSome result (λ name. name_of row.now ≡ Some name.now) }
+    ensures fits { IfSome result (λ name. length name.now ≤ NAME_LIMIT) }
 {
     match row {
-        Some(row) => Some(words(&row.name)),
+        Some(row) => {
+            // The proof takes the length of the name from this.
+            let _bytes = row.name.bytes();
+            Some(words(&row.name))
+        }
         None => None,
     }
 }

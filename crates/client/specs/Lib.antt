@@ -18,3 +18,4 @@ pub mod Exchanges
 pub mod Syncing
 pub mod LongTexts
 pub mod Limits
+pub mod LastSaid

@@ -1,11 +1,15 @@
 //! The sessions of a fan.
 
-ghost use Rattle.std.specs.Prelude.{◌≡◌, ◌<◌, [], false, get_or, length, true};
+ghost use Rattle.std.specs.Prelude.{◌≡◌, ◌<◌, ◌≤◌, Some, [], false, get_or, length, true};
+ghost use Rattle.relay_wire.specs.declared.limits.TheConstants.{NAME_LIMIT};
 ghost use Rattle.book.specs.Fanning.{AddsTo, IsListed, IsUnlisted};
-ghost use Rattle.book.specs.Fans.{AreListed, IsFanList};
+ghost use Rattle.book.specs.Fans.{AreListed, IsFanList, said_at};
+ghost use Rattle.book.specs.RowKeepings.{name_of, row_at};
 
 use crate::book::Book;
+use crate::row::{core_of, row_name};
 use arrayvec::ArrayVec;
+use dr_base::Position;
 use kem_laws::Kem;
 use std::marker::Model;
 use thiserror::Error;
@@ -115,5 +119,32 @@ impl FanOut {
         }
         self.places.push(at);
         Ok(())
+    }
+
+    /// The name of the session at a place of the fan, from 0. The fan's sessions are those of this
+    /// book as it stands.
+    pub fn name<'a, K: Kem>(&self, book: &'a Book<K>, at: usize) -> &'a str
+        requires listed { AreListed book.now.rows self.now }
+        requires inside { at < length self.now }
+        ensures name { name_of (row_at book.now.rows (get_or self.now at 0)) ≡ Some result.now }
+        ensures fits { length result.now ≤ NAME_LIMIT }
+    {
+        match row_name(&book.shelf.rows[self.place(at)]) {
+            Some(name) => name,
+            None => unreachable!(),
+        }
+    }
+
+    /// Where the latest own text stands of the session at a place of the fan, from 0, as it stands
+    /// in the book; none exactly where the fan has no such place, or the session never said
+    /// anything. The fan's sessions are those of this book as it stands.
+    pub fn said<K: Kem>(&self, book: &Book<K>, at: usize) -> Option<Position>
+        requires { AreListed book.now.rows self.now }
+        ensures { result ≡ said_at book.now.rows self.now at }
+    {
+        if at >= self.len() {
+            return None;
+        }
+        core_of(&book.shelf.rows[self.place(at)]).last_said()
     }
 }

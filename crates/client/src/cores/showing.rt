@@ -2,14 +2,25 @@
 
 ghost use Rattle.std.specs.Prelude.{◌≡◌, ◌↔◌, ◌<◌, ◌≤◌, All, length, option_map, slice_get, IfSome, IsSome};
 ghost use Rattle.dr_base.specs.declared.limits.TheConstants.{PACKET_LIMIT, TEXT_LIMIT};
+ghost use Rattle.client.specs.LastSaid.{last_of, last_said};
 
 use boxes::{Entry, Inbox, Outbox};
 use dr_base::{Position, Side};
 use kem_laws::Kem;
 use long_text::{LONG_LIMIT, LongRefusal, long};
 use ratchet::Session;
-use session_model::{RelayKeys, Summary};
+use session_model::{Phase, RelayKeys, Summary};
 use std::marker::Model;
+
+/// The last of so many texts of an epoch.
+fn last_of(epoch: u32, count: u32) -> Option<Position>
+    ensures { result ≡ last_of epoch count }
+{
+    if count == 0 {
+        return None;
+    }
+    Some(Position { epoch, index: count })
+}
 
 /// A side of a conversation in memory: its session and its boxes, without a store. A contract sees
 /// what it keeps, which is lawful.
@@ -105,6 +116,19 @@ impl<K: Kem> Core<K> {
     {
         let part = self.session.part();
         part.head.awaiting.positions().get(at).copied()
+    }
+
+    /// Where its latest own text, or part of a long one, stands; none exactly where it never said
+    /// anything.
+    pub fn last_said(&self) -> Option<Position>
+        ensures { result ≡ last_said self.now.state }
+    {
+        let part = self.session.part();
+        match &part.head.phase {
+            Phase::Own(own) => last_of(part.head.epoch, own.sent),
+            Phase::Peers(_) if part.head.epoch == 0 => None,
+            Phase::Peers(_) => last_of(part.head.epoch - 1, part.head.previous),
+        }
     }
 
     /// The keys of its session's boxes at a relay: the owner's and the poster's of box 1, then those

@@ -1,6 +1,5 @@
-use Rattle.std.proofs.Common.{List, None, Option, Some, [], ap, get_or, subst, sym, ℕ, ◌∙◌, ◌≡◌}
+use Rattle.std.proofs.Common.{List, [], ap, subst, sym, ℕ, ◌∙◌}
 use Rattle.book_model.specs.Rows.{Row}
-use Rattle.book_store.specs.Shown.{BookRow}
 use Rattle.book_store.specs.Store.{IsNewName}
 use Rattle.session_model.specs.Clients.{Client}
 use Rattle.session_record.specs.Record.{record_text}

@@ -1,4 +1,4 @@
-use Rattle.std.proofs.Common.{List, None, Option, Some, [], ap, arith, get_or, length, subst, sym, ℕ, ◌+◌, ◌<◌, ◌∙◌, ◌∷◌, ◌++◌, ◌≡◌}
+use Rattle.std.proofs.Common.{None, Option, Some, [], ap, arith, get_or, length, subst, sym, ◌+◌, ◌∙◌, ◌∷◌, ◌++◌, ◌≡◌}
 use Rattle.std.specs.Prelude.{if◌then◌else◌, is_ok}
 use Rattle.std.proofs.lemmas.List.{get_or-set_other, length-set, length_push}
 use Rattle.book_model.specs.Rows.{Row, Rows}

@@ -1,4 +1,4 @@
-use Rattle.std.proofs.Common.{Bool, Err, None, Ok, Option, Some, arith, get_or, length, refl, subst, sym, ◌*◌, ◌+◌, ◌∙◌}
+use Rattle.std.proofs.Common.{Bool, Err, None, Ok, Option, arith, get_or, length, refl, subst, sym, ◌*◌, ◌+◌, ◌∙◌}
 use Rattle.std.proofs.lemmas.List.{get_or_default}
 use Rattle.dr_disk.specs.Spans.{Span}
 use Rattle.dr_disk.proofs.Calling.{then_failed}

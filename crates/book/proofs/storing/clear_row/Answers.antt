@@ -1,7 +1,7 @@
-use Rattle.std.proofs.Common.{Err, Ok, ap, subst, sym, ◌≡◌, ◌≤◌}
+use Rattle.std.proofs.Common.{Err, Ok, subst, sym, ◌≤◌}
 use Rattle.book_store.specs.Layout.{HasBook}
 use Rattle.book_store.specs.Staging.{IsStagedOver}
-use Rattle.book_store.specs.Store.{BookStore, without_row}
+use Rattle.book_store.specs.Store.{BookStore}
 use Rattle.book.specs.Changing.{TakesPlaceOf}
 use Rattle.book_store.specs.declared.layout.TheConstants.{BOOK_ROWS}
 use Rattle.book.proofs.Staged.{unstaged}

@@ -1,9 +1,6 @@
-use Rattle.std.proofs.Common.{Err, Ok, Result, ap, arith, subst, sym, take, ◌∙◌, ◌≡◌, ◌≤◌}
-use Rattle.dr_disk.specs.State.{Always}
-use Rattle.dr_disk.specs.Spans.{Span}
-use Rattle.book_store.specs.Committing.{KeepsRows, StagesRow}
+use Rattle.std.proofs.Common.{Err, Ok, ap, arith, subst, sym, take, ◌≤◌}
+use Rattle.book_store.specs.Committing.{StagesRow}
 use Rattle.book_store.specs.Layout.{HasBook}
-use Rattle.book_store.specs.Staging.{IsStagedOver}
 use Rattle.book_store.specs.Store.{BookStore, with_row, writes_at}
 use Rattle.book_store.specs.declared.errors.StoreFault.{StoreFault}
 use Rattle.book.specs.Changing.{TakesPlaceOf}

@@ -1,13 +1,12 @@
-use Rattle.std.proofs.Common.{Ok, Err, ap, arith, length, subst, sym, ◌∙◌, ◌≡◌, ◌≤◌}
+use Rattle.std.proofs.Common.{Ok, Err, ap, arith, length, subst, sym, ◌∙◌}
 use Rattle.dr_disk.specs.Called.{Called}
 use Rattle.dr_disk.specs.Spans.{Span}
-use Rattle.dr_disk.specs.State.{Always}
 use Rattle.pages.specs.Runs.{CameNext}
 use Rattle.pages.specs.Stops.{retire_call}
 use Rattle.book_store.specs.AtRest.{IsBookMarked}
-use Rattle.book_store.specs.Committing.{CommitsRows, HasCommitted, KeepsRows, ReadsOutsideBook, call_of}
+use Rattle.book_store.specs.Committing.{CommitsRows, KeepsRows, ReadsOutsideBook, call_of}
 use Rattle.book_store.specs.Layout.{HasBook}
-use Rattle.book_store.specs.Store.{BookStore, all_drops, committed, retire_calls, retired}
+use Rattle.book_store.specs.Store.{BookStore, all_drops, retire_calls, retired}
 use Rattle.book_store.specs.declared.errors.StoreFault.{StoreFault}
 use Rattle.book.proofs.Committed.{commit_failed, retire_failed, settled}
 use Rattle.book.proofs.storing.settle.Goals as goal

@@ -1,8 +1,8 @@
-use Rattle.std.proofs.Common.{Err, List, None, Ok, Option, Result, Some, ap, get_or, refl, subst, sym, true, ℕ, ◌∙◌, ◌≡◌}
+use Rattle.std.proofs.Common.{Err, List, None, Ok, Option, Result, Some, ap, get_or, refl, subst, sym, ℕ, ◌∙◌, ◌≡◌}
 use Rattle.std.specs.Prelude.{IsSome}
 use Rattle.std.proofs.Math.ListN.{set}
-use Rattle.book_model.specs.Rows.{Row, Rows, under}
-use Rattle.book_store.specs.Store.{BookStore, IsNewName, with_row, writes_at}
+use Rattle.book_model.specs.Rows.{under}
+use Rattle.book_store.specs.Store.{IsNewName, with_row, writes_at}
 use Rattle.book_store.specs.declared.errors.StoreFault.{StoreFault}
 use Rattle.relay_wire.specs.Names.{is_name}
 use Rattle.session_model.specs.Clients.{Client}

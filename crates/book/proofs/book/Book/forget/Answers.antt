@@ -1,7 +1,6 @@
-use Rattle.std.proofs.Common.{None, Ok, ap, refl, subst, sym, ◌∙◌, ◌≡◌}
+use Rattle.std.proofs.Common.{None, Ok, ap, subst, sym, ◌∙◌, ◌≡◌}
 use Rattle.std.proofs.Math.ListN.{set}
 use Rattle.book_store.specs.Store.{without_row}
-use Rattle.session_record.specs.Record.{record_text}
 use Rattle.book.specs.Books.{BookNow, IsBookReady}
 use Rattle.book.specs.Changing.{TakesPlaceOf}
 use Rattle.book.specs.Naming.{IsPlaceOf}

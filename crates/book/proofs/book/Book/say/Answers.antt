@@ -1,4 +1,4 @@
-use Rattle.std.proofs.Common.{Err, None, Ok, Option, ap, refl, subst, sym, ◌∙◌, ◌≡◌}
+use Rattle.std.proofs.Common.{Err, None, Ok, ap, refl, subst, sym, ◌∙◌, ◌≡◌}
 use Rattle.book_model.specs.Rows.{under}
 use Rattle.book_model.specs.Steps.{calls}
 use Rattle.dr_model.specs.Machines.Acts.{saying}

@@ -1,5 +1,4 @@
-use Rattle.std.proofs.Common.{Err, None, Ok, Result, ap, refl, subst, sym, ◌∙◌, ◌≡◌}
-use Rattle.dr_base.specs.declared.position.Position.{Position}
+use Rattle.std.proofs.Common.{Err, Ok, ap, subst, sym, ◌∙◌}
 use Rattle.dr_model.specs.Machines.Acts.{act_on, taking}
 use Rattle.client.specs.Outcomes.{KeeperActs, taken_as}
 use Rattle.book.specs.Books.{BookNow}

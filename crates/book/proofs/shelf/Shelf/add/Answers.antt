@@ -1,4 +1,4 @@
-use Rattle.std.proofs.Common.{List, Ok, ap, subst, sym, ℕ, take, ◌∙◌}
+use Rattle.std.proofs.Common.{List, Ok, ap, subst, sym, ℕ, ◌∙◌}
 use Rattle.book_model.specs.Rows.{Row}
 use Rattle.book_store.specs.Store.{IsNewName, with_row, writes_at}
 use Rattle.session_model.specs.Clients.{Client}

@@ -1,4 +1,4 @@
-use Rattle.std.proofs.Common.{Err, List, Ok, Option, [], ap, arith, length, refl, subst, sym, true, ◌+◌, ◌∙◌, ◌≡◌}
+use Rattle.std.proofs.Common.{Err, List, Option, ap, arith, length, refl, subst, sym, true, ◌+◌, ◌∙◌, ◌≡◌}
 use Rattle.std.specs.Prelude.{is_some}
 use Rattle.dr_base.specs.declared.key.Key32.{Key32}
 use Rattle.book.specs.Fans.{AreAsked, none_asked}

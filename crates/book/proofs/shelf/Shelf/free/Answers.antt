@@ -1,5 +1,4 @@
-use Rattle.std.proofs.Common.{None, ap, get_or, length, subst, true, ℕ, ◌<◌, ◌∙◌, ◌≡◌}
-use Rattle.std.specs.Prelude.{is_some}
+use Rattle.std.proofs.Common.{ap, subst, true, ◌∙◌, ◌≡◌}
 use Rattle.book_model.specs.Rows.{Rows, is_full}
 use Rattle.session_model.specs.Clients.{Client}
 use Rattle.book.specs.RowKeepings.{RowNow}

@@ -1,7 +1,6 @@
-use Rattle.std.proofs.Common.{Err, None, Ok, Option, Some, ap, ap₂, arith, false, get_or, length, refl, subst, sym, true, ◌<◌, ◌∙◌, ◌≡◌}
+use Rattle.std.proofs.Common.{Err, None, Ok, Option, Some, ap, false, get_or, refl, subst, sym, true, ◌∙◌, ◌≡◌}
 use Rattle.std.proofs.Math.ListN.{set}
 use Rattle.std.proofs.lemmas.List.{get_or-set_same, get_or_default, set-get_or}
-use Rattle.std.proofs.lemmas.Grind.{common_steps}
 use Rattle.book_model.specs.Rows.{Row, Rows}
 use Rattle.book_store.specs.Store.{with_row, writes_at}
 use Rattle.session_model.specs.Clients.{Client}

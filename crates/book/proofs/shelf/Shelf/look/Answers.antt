@@ -1,4 +1,4 @@
-use Rattle.std.proofs.Common.{List, None, Some, ap, ap₂, get_or, subst, sym, ℕ, ◌∙◌, ◌≡◌}
+use Rattle.std.proofs.Common.{List, None, Some, ap, ap₂, get_or, subst, sym, ℕ, ◌∙◌}
 use Rattle.std.proofs.lemmas.List.{get_or_default}
 use Rattle.book_model.specs.Rows.{Rows, under}
 use Rattle.session_model.specs.Clients.{Client}

@@ -1,4 +1,4 @@
-use Rattle.std.proofs.Common.{List, None, ap, ap₂, ℕ, ◌∙◌, ◌≡◌, sym}
+use Rattle.std.proofs.Common.{List, ap, ap₂, ℕ, ◌∙◌, sym}
 use Rattle.book_model.specs.Rows.{Rows, under}
 use Rattle.session_model.specs.Clients.{Client}
 use Rattle.book.specs.RowKeepings.{RowNow}

@@ -1,6 +1,5 @@
-use Rattle.std.proofs.Common.{Err, List, Ok, Option, ap, arith, false, inl, length, refl, subst, sym, true, ℕ, ◌*◌, ◌+◌, ◌<◌, ◌∙◌, ◌≡◌}
+use Rattle.std.proofs.Common.{Err, List, Ok, Option, ap, arith, false, length, refl, subst, sym, true, ◌*◌, ◌+◌, ◌∙◌, ◌≡◌}
 use Rattle.dr_disk.specs.Spans.{Span}
-use Rattle.dr_disk.specs.State.{DiskState}
 use Rattle.dr_disk.proofs.Calling.{then_failed, then_passed}
 use Rattle.pages.proofs.Around.{reads_both}
 use Rattle.book_model.specs.Rows.{Rows}
