@@ -9,8 +9,9 @@ use Rattle.endings.specs.Ends.{Ends}
 use Rattle.endings.specs.declared.ending.Ending.{Ending}
 use Rattle.kem_laws.specs.Mechanism.{Mechanism}
 use Rattle.session_model.specs.Clients.{Client}
+use Rattle.session_model.specs.Contents.{Content}
 use Rattle.command_lines.specs.Acting.{ActedAt, ClientAsk, was_cut, was_done, was_refused, was_undrawn, was_unopened}
-use Rattle.command_lines.specs.Asking.{SaysText, with_seed, without_seed}
+use Rattle.command_lines.specs.Asking.{SaysContent, with_seed, without_seed}
 use Rattle.command_lines.specs.InWorlds.{RunsActAt}
 use Rattle.command_lines.specs.Inputs.{IsNoInput, had_no_memory, is_bad, is_too_long, read_failed}
 use Rattle.command_lines.specs.Places.{Place}
@@ -46,17 +47,17 @@ counted comes others old new code so runs later = record {
 
 -- ---- what came to pass with it
 
-pub no_draw_failed : {W : Type 0} (draws : W → DrawsState) (text : List ℕ) (source left : W) (kept : Client)
-    (act : Act) → SaysText draws text source left kept act → (draws left).faults ≡ (draws source).faults
-no_draw_failed draws text source left kept act (without_seed none same) = cc
-no_draw_failed draws text source left kept act (with_seed seed needed long drew quiet) = quiet
+pub no_draw_failed : {W : Type 0} (draws : W → DrawsState) (content : Content) (source left : W) (kept : Client)
+    (act : Act) → SaysContent draws content source left kept act → (draws left).faults ≡ (draws source).faults
+no_draw_failed draws content source left kept act (without_seed none same) = cc
+no_draw_failed draws content source left kept act (with_seed seed needed long drew quiet) = quiet
 
 -- where no session is found, the status isn't 0
 abbrev pub TellsRefusals : Place → Type 0
 TellsRefusals place = (refusal : place.Refusal) → code_of (place.ending refusal) ≡ 0 → ⊥
 
 module _ {X : Type 0} (place : Place) (tells : TellsRefusals place) (state : X → DiskState) (k : Mechanism) (start now : X) where
-  acted_quiet : (asked : ClientAsk) (others : Type 0)
+  pub acted_quiet : (asked : ClientAsk) (others : Type 0)
       → ((kept : Client) (act : Act) → asked.acts kept act → IsQuiet (state start) (state now) → others)
       → (ending : Ending) (lines : List ℕ)
       → ActedAt place state k asked start now ending lines → code_of ending ≡ 0 → others

@@ -1,9 +1,11 @@
 -- How a command closes: with the answer of its act, or with another ending.
 use Rattle.std.specs.Prelude.{Err, List, Ok, Result, [], codes, ℕ, ◌++◌}
 use Rattle.answer_lines.specs.Answers.{answer_text}
+use Rattle.dr_base.specs.declared.position.Position.{Position}
 use Rattle.endings.specs.declared.ending.Ending.{Ending}
 use Rattle.endings.specs.declared.ending.Ending.TheVariants.{DiskFault, Done, DrawFault, Refused}
 use Rattle.session_model.specs.declared.answer.Answer.{Answer}
+use Rattle.session_model.specs.declared.answer.Answer.TheVariants.{Said}
 use Rattle.client.specs.Outcomes.{Outcome, acknowledged, faulted, is_closed, refused, undrawn}
 
 -- the line of an answer
@@ -25,6 +27,11 @@ worked_as (refused refusal) = Err (Refused refusal)
 worked_as undrawn = Err DrawFault
 worked_as (acknowledged answer) = Ok answer
 worked_as (faulted call) = Err DiskFault
+
+-- a text, or a part of a long one, was said, or the command ended otherwise
+abbrev pub worked_by : Result Position Ending → Result Answer Ending
+worked_by (Ok position) = Ok (Said position)
+worked_by (Err ending) = Err ending
 
 -- with the line of a session that was begun, or with another ending
 abbrev pub begun_ending : Result (List ℕ) Ending → Ending

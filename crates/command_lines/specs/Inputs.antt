@@ -25,6 +25,10 @@ packet_in_hex text = where_ok (decode_sized (stripped text) (length (stripped te
 unfoldable pub key_in_hex : List ℕ → Option (List ℕ)
 key_in_hex text = where_ok (decode_sized (stripped text) 32)
 
+-- the text itself: none is bad
+abbrev pub whole_text : List ℕ → Option (List ℕ)
+whole_text text = Some text
+
 -- All was read, and is this value. The source stood as `from` says and stands as `to` does.
 pub record IsInput (limit : ℕ) (parse : List ℕ → Option (List ℕ)) (from to : SourceState)
     (value : List ℕ) : Type 0 where

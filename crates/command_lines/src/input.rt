@@ -1,15 +1,17 @@
 //! What a command reads from the source.
 
-ghost use Rattle.std.specs.Prelude.{◌≡◌, ◌≤◌, length, option_map};
+ghost use Rattle.std.specs.Prelude.{◌≡◌, ◌≤◌, IfOk, length, option_map};
 ghost use Rattle.dr_base.specs.declared.key.Key32.{Key32};
 ghost use Rattle.endings.specs.declared.ending.Ending.TheVariants.{BadKey, NotHex};
-ghost use Rattle.command_lines.specs.Inputs.{ReadsInput, key_in_hex, packet_in_hex, stripped};
+ghost use Rattle.long_text.specs.declared.limits.TheConstants.{LONG_LIMIT};
+ghost use Rattle.command_lines.specs.Inputs.{ReadsInput, key_in_hex, packet_in_hex, stripped, whole_text};
 
 use arrayvec::ArrayVec;
 use dr_base::{Key32, PACKET_LIMIT};
 use dr_ports::{InputError, Source, read_whole};
 use endings::Ending;
 use hex::decode_to_slice;
+use long_text::LONG_LIMIT;
 use std::alloc::Global;
 
 /// The longest text of a packet, in bytes: two hex digits for each of its own, and a line feed.
@@ -93,5 +95,19 @@ pub fn read_key<S: Source>(alloc: Global, source: &mut S) -> Result<Key32, Endin
     match key_in(text.as_slice()) {
         Some(key) => Ok(key),
         None => Err(Ending::BadKey),
+    }
+}
+
+/// Reads the long text that the source holds, just as it is.
+pub fn read_long<S: Source>(alloc: Global, source: &mut S) -> Result<Vec<u8>, Ending>
+    ensures reads { ReadsInput (λ text. text.items) LONG_LIMIT whole_text NotHex
+        (S.at source.old) (S.at source.new) result }
+    ensures fits { IfOk result (λ text. length text.items ≤ LONG_LIMIT) }
+{
+    match read_whole(alloc, source, LONG_LIMIT) {
+        Ok(text) => Ok(text),
+        Err(InputError::Memory) => Err(Ending::NoMemory),
+        Err(InputError::TooLong) => Err(Ending::InputTooLong(LONG_LIMIT as u32)),
+        Err(InputError::Fault) => Err(Ending::ReadFault),
     }
 }

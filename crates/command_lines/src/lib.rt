@@ -7,12 +7,12 @@
 #![tactic(auto)]
 
 pub use closing::{close, finish_with, finish_written};
-pub use input::{KEY_TEXT_LIMIT, PACKET_TEXT_LIMIT, Packet, read_key, read_packet};
+pub use input::{KEY_TEXT_LIMIT, PACKET_TEXT_LIMIT, Packet, read_key, read_long, read_packet};
 pub use keys::write_keys;
 pub use lines::{put_count, session_line};
 pub use listing::{Listing, write_listing};
-pub use longs::close_long;
-pub use outcomes::{dropped, said, taken};
+pub use longs::{close_long, write_said_part};
+pub use outcomes::{dropped, said, said_at, taken};
 
 mod closing;
 mod input;

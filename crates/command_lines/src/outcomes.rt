@@ -2,7 +2,7 @@
 
 ghost use Rattle.std.specs.Prelude.{◌≡◌};
 ghost use Rattle.client.specs.Outcomes.{dropped_as, said_as, taken_as};
-ghost use Rattle.command_lines.specs.Closing.{worked_as};
+ghost use Rattle.command_lines.specs.Closing.{worked_as, worked_by};
 
 use client::{DropRefusal, SayRefusal, TakeRefusal};
 use dr_base::Position;
@@ -15,6 +15,20 @@ pub fn said(acted: Result<Position, SayRefusal>) -> Result<Answer, Ending>
 {
     match acted {
         Ok(position) => Ok(Answer::Said(position)),
+        Err(SayRefusal::Closed { .. }) => Err(Ending::DiskFault),
+        Err(SayRefusal::Refused(refusal)) => Err(Ending::Refused(refusal)),
+        Err(SayRefusal::DrawFault) => Err(Ending::DrawFault),
+        Err(SayRefusal::NoPair { .. }) => Err(Ending::Refused(Refusal::NoPair)),
+        Err(SayRefusal::StoreFault { .. }) => Err(Ending::DiskFault),
+    }
+}
+
+/// Where a part of a long text was said, or how the command ends.
+pub fn said_at(acted: Result<Position, SayRefusal>) -> Result<Position, Ending>
+    ensures { worked_by result ≡ worked_as (said_as acted) }
+{
+    match acted {
+        Ok(position) => Ok(position),
         Err(SayRefusal::Closed { .. }) => Err(Ending::DiskFault),
         Err(SayRefusal::Refused(refusal)) => Err(Ending::Refused(refusal)),
         Err(SayRefusal::DrawFault) => Err(Ending::DrawFault),

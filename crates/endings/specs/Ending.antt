@@ -3,7 +3,8 @@ use Rattle.std.specs.Prelude.{ℕ, List, [], ◌++◌, codes, decimal}
 use Rattle.answer_lines.specs.Answers.{refusal_text}
 use Rattle.answer_lines.specs.Longs.{long_refusal_text}
 use Rattle.endings.specs.declared.ending.Ending.{Ending}
-use Rattle.endings.specs.declared.ending.Ending.TheVariants.{Done, Usage, InputTooLong, BadKey, NotHex, BadBox, BoxName, BoxKeys, BadName, NameTaken, NoName, BookFull, BadLine, NoRelayKeys, Refused, Unjoined, NoSuchPart, BoxFull, NoBox, Denied, ReadFault, DiskFault, LinkFault, DrawFault, NoSession, Exists, Damaged, DamagedArea, DamagedBookTable, DamagedBookRow, Peer, NoMemory}
+use Rattle.endings.specs.declared.ending.Ending.TheVariants.{Done, Usage, InputTooLong, BadKey, NotHex, BadBox, BoxName, BoxKeys, BadName, NameTaken, NoName, BookFull, Twice, FanFull, PeerRefused, BadLine, NoRelayKeys, Refused, Unjoined, NoSuchPart, BoxFull, NoBox, Denied, ReadFault, DiskFault, LinkFault, DrawFault, NoSession, Exists, Damaged, DamagedArea, DamagedBookTable, DamagedBookRow, Peer, NoMemory}
+use Rattle.endings.specs.PeerNames.{shown_name}
 use Rattle.relay_pipe.specs.declared.faults.PeerKind.{PeerKind}
 use Rattle.relay_pipe.specs.declared.faults.PeerKind.TheVariants.{Frame, Kind, Size, Wrong, Ended}
 
@@ -21,6 +22,9 @@ code_of BadName = 3
 code_of NameTaken = 3
 code_of NoName = 3
 code_of (BookFull rows) = 3
+code_of Twice = 3
+code_of FanFull = 3
+code_of (PeerRefused name refusal) = 3
 code_of (BadLine number) = 3
 code_of NoRelayKeys = 3
 code_of (Refused refusal) = 3
@@ -64,6 +68,10 @@ ending_text BadName = codes "refused: BadName"
 ending_text NameTaken = codes "refused: NameTaken"
 ending_text NoName = codes "refused: NoName"
 ending_text (BookFull rows) = codes "refused: BookFull " ++ decimal rows
+ending_text Twice = codes "refused: Twice"
+ending_text FanFull = codes "refused: FanFull"
+ending_text (PeerRefused name refusal) =
+    codes "refused: Peer " ++ shown_name name ++ codes " " ++ refusal_text refusal
 ending_text (BadLine number) = codes "refused: Script " ++ decimal number
 ending_text NoRelayKeys = codes "refused: NoRelayKeys"
 ending_text (Refused refusal) = codes "refused: " ++ refusal_text refusal

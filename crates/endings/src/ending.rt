@@ -3,6 +3,7 @@
 ghost use Rattle.std.specs.Prelude.{◌≡◌};
 ghost use Rattle.endings.specs.Ending.{code_of};
 
+use crate::peer_name::PeerName;
 use long_text::LongRefusal;
 use relay_pipe::PeerKind;
 use session_model::Refusal;
@@ -34,6 +35,12 @@ pub enum Ending {
     NoName,
     /// Each of the book's rows, this many, has a session.
     BookFull(u32),
+    /// A name is given twice for a fan.
+    Twice,
+    /// A fan has as many sessions as it may.
+    FanFull,
+    /// The session of a name refuses the text of a fan.
+    PeerRefused { name: PeerName, refusal: Refusal },
     /// The script's first bad line, from 1.
     BadLine(u32),
     /// The session has no keys of its boxes at a relay.
@@ -94,6 +101,9 @@ impl Ending {
             Ending::NameTaken => 3,
             Ending::NoName => 3,
             Ending::BookFull(_) => 3,
+            Ending::Twice => 3,
+            Ending::FanFull => 3,
+            Ending::PeerRefused { .. } => 3,
             Ending::BadLine(_) => 3,
             Ending::NoRelayKeys => 3,
             Ending::Refused(_) => 3,

@@ -3,7 +3,9 @@
 #![tactic(auto)]
 
 pub use ending::Ending;
+pub use peer_name::PeerName;
 pub use status::{Status, UNWRITTEN, finish};
 
 mod ending;
+mod peer_name;
 mod status;

@@ -5,8 +5,11 @@ ghost use Rattle.answer_lines.specs.Answers.{refusal_text};
 ghost use Rattle.answer_lines.specs.Longs.{long_refusal_text};
 ghost use Rattle.endings.specs.Ending.{ending_text, last_line, peer_kind_text};
 ghost use Rattle.endings.specs.Ends.{Ends};
+ghost use Rattle.endings.specs.PeerNames.{shown_name};
+ghost use Rattle.relay_wire.specs.declared.limits.TheConstants.{NAME_LIMIT};
 
 use crate::ending::Ending;
+use crate::peer_name::PeerName;
 use answer_lines::{put_long_refusal, put_named, put_refusal};
 use dr_ports::{Failed, OutputLine, ROOM, Sink, write_all};
 use long_text::LongRefusal;
@@ -44,6 +47,19 @@ fn put_refused(line: &mut OutputLine, refusal: Refusal)
     ensures len { length line.new ≤ length line.old + 70 }
 {
     line.text(b"refused: ");
+    put_refusal(line, refusal);
+}
+
+/// Puts a refusal of the session of a name after what stands.
+fn put_peer_refusal(line: &mut OutputLine, name: &PeerName, refusal: Refusal)
+    requires { length line.old + 76 + NAME_LIMIT ≤ ROOM }
+    ensures bytes { line.new ≡ line.old ++ codes "refused: Peer " ++ shown_name name.now
+        ++ codes " " ++ refusal_text refusal }
+    ensures len { length line.new ≤ length line.old + 76 + NAME_LIMIT }
+{
+    line.text(b"refused: Peer ");
+    line.text(name.shown());
+    line.text(b" ");
     put_refusal(line, refusal);
 }
 
@@ -100,6 +116,9 @@ fn put_ending(line: &mut OutputLine, ending: Ending)
         Ending::NameTaken => line.text(b"refused: NameTaken"),
         Ending::NoName => line.text(b"refused: NoName"),
         Ending::BookFull(rows) => put_named(line, b"refused: BookFull ", u64::from(rows)),
+        Ending::Twice => line.text(b"refused: Twice"),
+        Ending::FanFull => line.text(b"refused: FanFull"),
+        Ending::PeerRefused { name, refusal } => put_peer_refusal(line, &name, refusal),
         Ending::BadLine(number) => put_named(line, b"refused: Script ", u64::from(number)),
         Ending::NoRelayKeys => line.text(b"refused: NoRelayKeys"),
         Ending::Refused(refusal) => put_refused(line, refusal),
