@@ -7,7 +7,7 @@ use dr_base::{Key32, Side};
 use dr_disk::{Disk, MemoryDisk};
 use dr_ports::{MemoryDraws, MemorySink, MemorySource};
 use kem_laws::OpenKem;
-use session_commands::{begin, check, drop_items, say, show, take};
+use session_commands::{begin, check, drop_items, say, say_long, show, take};
 use session_model::{Items, Which};
 use std::alloc::{AllocError, Global};
 use std::test::Fail;
@@ -23,6 +23,8 @@ pub fn new_disk(alloc: Global) -> Result<MemoryDisk, AllocError> {
 pub enum Command<'a> {
     Begin(Side, Format, &'a [u8]),
     Say(&'a [u8]),
+    /// An id, the part to begin with, and what is read.
+    SayLong(u32, u64, &'a [u8]),
     Take(&'a [u8]),
     Done(u32),
     Sent(u32),
@@ -36,7 +38,7 @@ pub enum Command<'a> {
 /// What a command reads.
 fn text_of<'a>(command: Command<'a>) -> &'a [u8] {
     match command {
-        Command::Begin(_, _, text) | Command::Take(text) => text,
+        Command::Begin(_, _, text) | Command::SayLong(_, _, text) | Command::Take(text) => text,
         _ => b"",
     }
 }
@@ -60,6 +62,15 @@ fn status_of(
         }
         Command::Take(_) => take::<OpenKem, _, _, _>(alloc, disk, &mut source, out),
         Command::Say(text) => say::<OpenKem, _, _, _>(alloc, text, disk, out, &mut draws),
+        Command::SayLong(id, from, _) => say_long::<OpenKem, _, _, _, _>(
+            alloc,
+            id,
+            from,
+            disk,
+            &mut source,
+            out,
+            &mut draws,
+        ),
         Command::Done(n) => {
             drop_items::<OpenKem, _, _>(alloc, Which::Oldest(Items::Texts, n), disk, out)
         }

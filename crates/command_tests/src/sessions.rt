@@ -61,6 +61,71 @@ fn a_text_is_said(rt: HostRuntime) -> Result<(), Fail> {
     Ok(())
 }
 
+// Second says a long text in parts, and from its second part on.
+#[test]
+fn a_long_text_is_said(rt: HostRuntime) -> Result<(), Fail> {
+    let alloc = rt.alloc();
+    let mut disk = new_disk(alloc)?;
+    let two = &[b'y'; 4091];
+    let rows: [Row<'_>; 8] = [
+        (Command::SayLong(7, 1, b"ab"), &[], 9, b"no session\n"),
+        (Command::SayLong(7, 2, b"ab"), &[], 9, b"no session\n"),
+        (
+            Command::Begin(Side::Second, Format::Receipts, KEY),
+            &[],
+            0,
+            NAME,
+        ),
+        (
+            Command::SayLong(7, 0, b"ab"),
+            &[],
+            3,
+            b"refused: NoSuchPart 1\n",
+        ),
+        (
+            Command::SayLong(7, 3, two),
+            &[],
+            3,
+            b"refused: NoSuchPart 2\n",
+        ),
+        (Command::SayLong(7, 1, b""), &[], 0, b"said 0.1 part 1/1\n"),
+        (
+            Command::SayLong(8, 1, two),
+            &[],
+            0,
+            b"said 0.2 part 1/2\nsaid 0.3 part 2/2\n",
+        ),
+        (Command::SayLong(8, 2, two), &[], 0, b"said 0.4 part 2/2\n"),
+    ];
+    assert!(rt; all_end(alloc, &mut disk, &rows)?);
+    Ok(())
+}
+
+// Parts are refused in a session of another format, and a read of the text may fail.
+#[test]
+fn a_long_text_is_refused(rt: HostRuntime) -> Result<(), Fail> {
+    let alloc = rt.alloc();
+    let mut disk = new_disk(alloc)?;
+    let rows: [Row<'_>; 4] = [
+        (
+            Command::Begin(Side::Second, Format::Padded, KEY),
+            &[],
+            0,
+            NAME,
+        ),
+        (Command::SayLong(7, 1, b"ab"), &[], 3, b"refused: NoParts\n"),
+        (
+            Command::SayLong(7, 2, b"ab"),
+            &[],
+            3,
+            b"refused: NoSuchPart 1\n",
+        ),
+        (Command::SayLong(7, 1, b"ab"), &[1], 4, b"fault: read\n"),
+    ];
+    assert!(rt; all_end(alloc, &mut disk, &rows)?);
+    Ok(())
+}
+
 /// The packet of a text that Second says in this format.
 fn packet_of_second(alloc: Global, format: Format) -> Result<Vec<u8>, Fail> {
     let mut disk = new_disk(alloc)?;

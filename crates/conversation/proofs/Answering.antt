@@ -13,12 +13,12 @@ use Rattle.dr_model.specs.Theorems.LawfulWorlds.{IsLawfulWorld}
 use Rattle.dr_ports.specs.States.{DrawsState}
 use Rattle.kem_laws.specs.Mechanism.{Mechanism}
 use Rattle.session_model.specs.Clients.{Client}
-use Rattle.session_model.specs.Contents.{text_content}
+use Rattle.session_model.specs.Contents.{Content}
 use Rattle.session_model.specs.declared.answer.Answer.{Answer}
 use Rattle.session_model.specs.declared.answer.Answer.TheVariants.{Opened, Said}
 use Rattle.client.specs.Moments.{IsAmongKnown, Known}
 use Rattle.client.proofs.Spending.{taken_used}
-use Rattle.command_lines.specs.Asking.{SaysText, with_seed, without_seed}
+use Rattle.command_lines.specs.Asking.{SaysContent, with_seed, without_seed}
 use Rattle.command_lines.specs.InWorlds.{goes_on, is_in_doubt, stays_refused, stays_undrawn, stays_unopened}
 use Rattle.session_commands.specs.WholeRuns.{Command, Ran, acted, asked_by, showed, stayed, synced, was_cut_acting, was_cut_showing, was_cut_staying, was_cut_syncing, was_left_alone}
 use Rattle.conversation.specs.Answered.{WasAnswered}
@@ -90,12 +90,12 @@ module _ (k : Mechanism) (side : Side) (w : World) where
       (taken_used k w side packet p
       (subst (λ (i : Act). (act_in k w side i).answer ≡ Opened p) is answered))
 
-  -- the text was said
-  pub said_in : {W : Type 0} (draws : W → DrawsState) (text : List ℕ) (source left : W) (kept : Client)
-      (act : Act) (p : Position) → SaysText draws text source left kept act → IsLawfulWorld k w
+  -- the text, or the part of one, was said
+  pub said_in : {W : Type 0} (draws : W → DrawsState) (content : Content) (source left : W) (kept : Client)
+      (act : Act) (p : Position) → SaysContent draws content source left kept act → IsLawfulWorld k w
       → IsFairAct k w side act → (act_in k w side act).answer ≡ Said p
-      → IsSpoken (act_in k w side act).next.conversation side (text_content text) p
-  said_in draws text source left kept act p (without_seed none same) lawful fair answered =
-      spoken k w side (text_content text) None p lawful fair answered
-  said_in draws text source left kept act p (with_seed seed needed long gave faults) lawful fair
-      answered = spoken k w side (text_content text) (Some seed) p lawful fair answered
+      → IsSpoken (act_in k w side act).next.conversation side content p
+  said_in draws content source left kept act p (without_seed none same) lawful fair answered =
+      spoken k w side content None p lawful fair answered
+  said_in draws content source left kept act p (with_seed seed needed long gave faults) lawful fair
+      answered = spoken k w side content (Some seed) p lawful fair answered

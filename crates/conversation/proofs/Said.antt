@@ -3,7 +3,7 @@ use Rattle.std.proofs.Common.{Bool, List, Some, [], ap, arith, cond, count_by, f
 use Rattle.std.specs.List.{list_any}
 use Rattle.std.specs.Prelude.{Contains, slice_get}
 use Rattle.std.proofs.lemmas.List.Sums.{sum_by-cons}
-use Rattle.boxes.specs.Entries.{Entry, entry_under}
+use Rattle.boxes.specs.Entries.{Entry, entry_with}
 use Rattle.dr_base.proofs.Positions.{is_at-same}
 use Rattle.dr_base.specs.Position.{is_at, peer_of}
 use Rattle.dr_base.specs.declared.position.Position.{Position}
@@ -28,7 +28,7 @@ use Rattle.conversation.proofs.Answering.{answered_in, opened_in, said_in}
 use Rattle.conversation.proofs.Held.{later_known}
 use Rattle.conversation.proofs.Lasting.{keeps}
 use Rattle.conversation.proofs.Spoken.{IsSpoken}
-use Rattle.session_model.specs.Contents.{text_content}
+use Rattle.session_model.specs.Contents.{Content}
 use Rattle.session_model.specs.declared.answer.Answer.TheVariants.{Opened, Said}
 
 count_map : {X Y : Type 0} (p : Y → Bool) (f : X → Y) (xs : List X)
@@ -61,17 +61,17 @@ module _ {X Y W : Type 0} (state : X → DiskState) (others : Y → DiskState)
     → IsAmongKnown (known_in k side (joints n)) v → IsLawfulWorld k v)
     (lawful_others : (n : ℕ) (c : Y) (v : World) → slice_get ys n ≡ Some c
     → IsAmongKnown (known_in k (peer_of side) (joints n)) v → IsLawfulWorld k v) where
-  said_there : (n : ℕ) (text : List ℕ) (source left : W) (p : Position)
-      → HasAnswered others draws k (peer_of side) ys joints n (says text source left) (Said p)
+  said_there : (n : ℕ) (content : Content) (source left : W) (p : Position)
+      → HasAnswered others draws k (peer_of side) ys joints n (says content source left) (Said p)
       → IsLawfulWorld k (joints (n + 1)).world
-      × IsSpoken (joints (n + 1)).world.conversation (peer_of side) (text_content text) p
-  said_there n text source left p has =
+      × IsSpoken (joints (n + 1)).world.conversation (peer_of side) content p
+  said_there n content source left p has =
       let is = answered_in others draws k (peer_of side) has.before has.after
       (known_in k (peer_of side) (joints n)) (known_in k (peer_of side) (joints (n + 1))) has.ran
-      (says text source left) (Said p) has.answered in (
+      (says content source left) (Said p) has.answered in (
         lawful_others (n + 1) has.after (joints (n + 1)).world has.next (inl refl),
-        subst (λ (v : World). IsSpoken v.conversation (peer_of side) (text_content text) p) is.leads
-            (said_in k (peer_of side) is.world draws text source left _ is.act p is.asked
+        subst (λ (v : World). IsSpoken v.conversation (peer_of side) content p) is.leads
+            (said_in k (peer_of side) is.world draws content source left _ is.act p is.asked
             (lawful_others n has.before is.world has.here is.which) is.fair is.answered),
       )
 
@@ -89,20 +89,20 @@ module _ {X Y W : Type 0} (state : X → DiskState) (others : Y → DiskState)
       )
 
   pub holds_texts : HoldsTexts state others draws k side xs ys joints
-  holds_texts said took at text packet source left p now before earlier is says_it takes_it bytes
+  holds_texts said took at content packet source left p now before earlier is says_it takes_it bytes
       image =
-      let spoke = said_there said text source left p says_it in
+      let spoke = said_there said content source left p says_it in
       let opened = opened_there took packet p takes_it in
       let still = stands client_cell state xs k side w (λ n. known_in k side (joints n)) linked at now is in
       let once : (v : World) → IsAmongKnown (known_in k side (joints at)) v
-      → StandsFor k v side bytes → StandsOnce k side (joints at) p text bytes = λ v which stood.
+      → StandsFor k v side bytes → StandsOnce k side (joints at) p content bytes = λ v which stood.
       let one = keeps k laws side (joints (said + 1)).world v spoke.0
       (later_known state k laws side xs w lawful joints linked (said + 1) at now v
       (omega (arith, before)) is which) in
       let two = keeps k laws side (joints (took + 1)).world v opened.0
       (later_known state k laws side xs w lawful joints linked (took + 1) at now v
       (omega (arith, earlier)) is which) in
-      let entry_is : entry_at v.conversation p ≡ entry_under p text =
+      let entry_is : entry_at v.conversation p ≡ entry_with p content.kind content.bytes =
       (one.said p spoke.1.said).1 ∙ spoke.1.entry_is in
       let has = two.opened p opened.1 in
       record {

@@ -19,6 +19,7 @@ use Rattle.client.specs.InWorlds.{StandsFor}
 use Rattle.client.specs.Moments.{AreLinked, acts_in}
 use Rattle.client.proofs.Standing.{stands}
 use Rattle.session_commands.specs.Talks.{IsPostedOn}
+use Rattle.session_model.specs.Contents.{text_content}
 use Rattle.session_commands.specs.WholeRuns.{LeavesAlone, Ran, says, takes}
 use Rattle.conversation.specs.Answered.{IsAcknowledged, WasAnswered}
 use Rattle.conversation.specs.Talk.{HasWholeTalked, IsWholeTalk}
@@ -83,16 +84,16 @@ module _ {D E W : Type 0} (state : D → DiskState) (lawful_disks : (d : D) → 
   are0 = left_since state others draws k a talk.begun c w (λ n. joint_of w) started.2 talk.rests
 
   one : GoesOn state others draws (a ∷ []) (c ∷ []) k w (λ n. joint_of w) 0 b c
-      (λ now. Done ≡ Done → IsAcknowledged state draws k First (a ∷ b ∷ []) now 0 (says text source left) said)
+      (λ now. Done ≡ Done → IsAcknowledged state draws k First (a ∷ b ∷ []) now 0 (says (text_content text) source left) said)
   one =
       first_goes state lawful_disks others lawful_others draws k grounds (a ∷ []) (c ∷ []) w
-      (λ n. joint_of w) started.1 are0 0 a c refl refl refl talk.first_bytes (says text source left)
+      (λ n. joint_of w) started.1 are0 0 a c refl refl refl talk.first_bytes (says (text_content text) source left)
       Done said talk.first_told b talk.says_it (λ v which. tt)
 
   abbrev joints1 : ℕ → Joint
   joints1 = with_next (λ n. joint_of w) 0 one.next
 
-  was_said : IsAcknowledged state draws k First (a ∷ b ∷ []) joints1 0 (says text source left) said
+  was_said : IsAcknowledged state draws k First (a ∷ b ∷ []) joints1 0 (says (text_content text) source left) said
   was_said = one.with_it refl
 
   posts : Contains (kept_in k (joints1 1).world First).outbox post
@@ -128,7 +129,7 @@ module _ {D E W : Type 0} (state : D → DiskState) (lawful_disks : (d : D) → 
   joints3 = with_next joints2 2 three.next
 
   -- what was acknowledged first is so in the whole conversation
-  still_said : IsAcknowledged state draws k First (a ∷ b ∷ b ∷ b ∷ []) joints3 0 (says text source left) said
+  still_said : IsAcknowledged state draws k First (a ∷ b ∷ b ∷ b ∷ []) joints3 0 (says (text_content text) source left) said
   still_said = record {
     answer = was_said.answer;
     printed = was_said.printed;
@@ -145,7 +146,7 @@ module _ {D E W : Type 0} (state : D → DiskState) (lawful_disks : (d : D) → 
     where
       Both : D → D → Type 0
       Both p q = (ran : Ran state draws k First p q (known_in k First (joints1 0)) (known_in k First (joints1 1)))
-          × WasAnswered ran (says text source left) was_said.answer
+          × WasAnswered ran (says (text_content text) source left) was_said.answer
 
       said_ran : Both a b
       said_ran =

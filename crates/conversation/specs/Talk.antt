@@ -11,6 +11,7 @@ use Rattle.dr_ports.specs.States.{DrawsState}
 use Rattle.endings.specs.declared.ending.Ending.{Ending}
 use Rattle.endings.specs.declared.ending.Ending.TheVariants.{Done}
 use Rattle.kem_laws.specs.Mechanism.{Mechanism}
+use Rattle.session_model.specs.Contents.{text_content}
 use Rattle.client.specs.Beginning.{begin_of}
 use Rattle.command_lines.specs.Asking.{asked_say, asked_take}
 use Rattle.session_commands.specs.Beginning.{Began}
@@ -62,6 +63,6 @@ pub record HasWholeTalked {D E W : Type 0} (state : D → DiskState) (others : E
   pub are : IsConversation state others draws (a ∷ b ∷ b ∷ b ∷ []) (c ∷ c ∷ e ∷ f ∷ []) k world
       joints
   pub was_said : IsAcknowledged state draws k First (a ∷ b ∷ b ∷ b ∷ []) joints 0
-      (says text source left) said
+      (says (text_content text) source left) said
   pub was_taken : IsAcknowledged others draws k Second (c ∷ c ∷ e ∷ f ∷ []) joints 2
       (takes packet) taken

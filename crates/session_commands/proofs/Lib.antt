@@ -1,4 +1,7 @@
 mod Opened
+mod PartsSaid
+mod PartRuns
+mod PartsCut
 mod Beginnings
 mod Completing
 mod SyncCompleting

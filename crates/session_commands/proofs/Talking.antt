@@ -15,6 +15,7 @@ use Rattle.kem_laws.specs.Mechanism.{Mechanism}
 use Rattle.client.specs.Cells.{client_cell}
 use Rattle.client.specs.Grounds.{Grounds}
 use Rattle.client.specs.InWorlds.{StandsFor}
+use Rattle.session_model.specs.Contents.{text_content}
 use Rattle.client.specs.Moments.{HaveMoved, IsAmongKnown, Known, settled_in}
 use Rattle.client.specs.Opening.{ReadsAsSide}
 use Rattle.client.proofs.Standing.{stands}
@@ -127,7 +128,7 @@ module _ {D E V : Type 0} (state : D → DiskState) (sound : (d : D) → IsLawfu
   said_ran =
       subst (Runs start said (settled_in w)) (asked.settles (settled_in w))
       (inl (acted (settled_in w) w (inl refl)
-      (says talk.asks.text talk.asks.source talk.asks.left) Done talk.asks.lines asks_runs))
+      (says (text_content talk.asks.text) talk.asks.source talk.asks.left) Done talk.asks.lines asks_runs))
 
   -- Second went on
   went : (v next : World) → HaveMoved k First (settled_in v) (settled_in next)

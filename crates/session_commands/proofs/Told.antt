@@ -1,5 +1,5 @@
 -- A command that shows something of what is kept, whether a client was opened or not.
-use Rattle.std.proofs.Common.{Err, List, None, Ok, Some, [], ap, inl, refl, subst, sym, ℕ, ◌∙◌, ◌≡◌, ◌≤◌, ◌⊎◌}
+use Rattle.std.proofs.Common.{Err, List, Ok, Some, [], inl, refl, subst, sym, ℕ, ◌∙◌, ◌≡◌, ◌≤◌, ◌⊎◌}
 use Rattle.dr_base.specs.declared.position.Side.{Side}
 use Rattle.dr_disk.specs.Spans.{IsQuiet, Span}
 use Rattle.dr_disk.specs.State.{DiskState, IsLawful}

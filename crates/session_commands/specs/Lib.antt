@@ -5,6 +5,8 @@ pub mod Taking
 pub mod Showing
 pub mod KeysShown
 pub mod LongShown
+pub mod LongSaying
+pub mod PartsSaid
 pub mod Beginning
 pub mod Checking
 pub mod Completing

@@ -10,6 +10,7 @@ use Rattle.endings.specs.declared.ending.Ending.{Ending}
 use Rattle.kem_laws.specs.Mechanism.{Mechanism}
 use Rattle.relay_wire.specs.Replies.{Replied}
 use Rattle.session_model.specs.Clients.{Client}
+use Rattle.session_model.specs.Contents.{Content}
 use Rattle.session_model.specs.declared.answer.Which.{Which}
 use Rattle.sync_model.specs.declared.more.More.{More}
 use Rattle.client.specs.InWorlds.{StandsFor}
@@ -18,22 +19,23 @@ use Rattle.client.specs.Syncing.InOrder.{IsLeftBetween}
 use Rattle.client.specs.Syncing.InWorlds.{AreUnforged}
 use Rattle.client.specs.declared.syncing.faults.SyncFault.{SyncFault}
 use Rattle.command_lines.specs.Acting.{ClientAsk}
-use Rattle.command_lines.specs.Asking.{asked_drop, asked_say, asked_take}
+use Rattle.command_lines.specs.Asking.{asked_content, asked_drop, asked_take}
 use Rattle.session_commands.specs.Disks.{RunsOn}
 use Rattle.session_commands.specs.Histories.{acted_known, cut_in_sync, cut_known, shown_known, synced_known}
 use Rattle.session_commands.specs.Acting.{RunsIn}
 use Rattle.session_commands.specs.Showing.{ShowsIn}
 use Rattle.session_commands.specs.Syncing.{SyncRunsIn}
 
--- A command that lets the client act once: it says a text, with the draws before and after it,
--- takes a packet, or drops items of a box.
+-- A command that lets the client act once: it says a text or a part of a long one, with the draws
+-- before and after it, takes a packet, or drops items of a box. One that says a long text is a row
+-- of these.
 pub data Command (W : Type 0) : Type 0 where
-  says : (text : List ℕ) (source left : W) → Command W
+  says : (content : Content) (source left : W) → Command W
   takes : (packet : List ℕ) → Command W
   drops : (which : Which) → Command W
 
 abbrev pub asked_by : {W : Type 0} → (W → DrawsState) → Mechanism → Command W → ClientAsk
-asked_by draws k (says text source left) = asked_say draws text source left
+asked_by draws k (says content source left) = asked_content draws content source left
 asked_by draws k (takes packet) = asked_take k packet
 asked_by draws k (drops which) = asked_drop (dropping which)
 

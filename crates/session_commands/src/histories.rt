@@ -11,6 +11,7 @@ ghost use Rattle.endings.specs.declared.ending.Ending.{Ending};
 ghost use Rattle.kem_laws.specs.Mechanism.{IsLawfulMechanism, Mechanism};
 ghost use Rattle.relay_wire.specs.Replies.{Replied};
 ghost use Rattle.session_model.specs.Clients.{Client};
+ghost use Rattle.session_model.specs.Contents.{Content};
 ghost use Rattle.slot_store.specs.Reading.{IsUndamaged};
 ghost use Rattle.sync_model.specs.declared.more.More.{More};
 ghost use Rattle.client.specs.Clients.{client_area};
@@ -19,7 +20,7 @@ ghost use Rattle.client.specs.Opening.{ReadsAsSide};
 ghost use Rattle.client.specs.Syncing.InOrder.{IsLeftBetween};
 ghost use Rattle.client.specs.Syncing.InWorlds.{AreUnforged};
 ghost use Rattle.client.specs.declared.syncing.faults.SyncFault.{SyncFault};
-ghost use Rattle.command_lines.specs.Asking.{asked_drop, asked_say, asked_take};
+ghost use Rattle.command_lines.specs.Asking.{asked_content, asked_drop, asked_take};
 ghost use Rattle.session_commands.specs.Completing.{ReadsWhole};
 ghost use Rattle.session_commands.specs.Disks.{RunsOn};
 ghost use Rattle.session_commands.specs.Histories.{LinksActs, LinksCuts, cut_in_sync, shown_known, synced_known};
@@ -68,7 +69,8 @@ pub fn stays_whole<D: Disk>(before: &D, after: &D, crashed: &D)
 pub fn runs_are_links<D: Disk, W: Draws>(before: &D, after: &D, draws: &W, left: &W)
     ensures says { (k : Mechanism) → IsLawfulMechanism k → (side : Side) (known : Known) (w : World)
         → IsAmongKnown known w → IsLawfulWorld k w
-        → (text : List ℕ) → LinksActs k side known w (asked_say W.at text draws.now left.now)
+        → (content : Content)
+        → LinksActs k side known w (asked_content W.at content draws.now left.now)
         (D.state before.now) (D.state after.now) }
     ensures takes { (k : Mechanism) → IsLawfulMechanism k
         → (side : Side) (known : Known) (w : World) → IsAmongKnown known w → IsLawfulWorld k w
@@ -103,7 +105,8 @@ pub fn crashes_are_links<D: Disk, W: Draws>(before: &D, after: &D, crashed: &D, 
     ensures says { (k : Mechanism) (side : Side) (known : Known) (w : World) → IsAmongKnown known w
         → ((c : List ℕ) → (D.state crashed.now).image c
         → IsLeftBetween (D.state before.now) (D.state after.now) c)
-        → (text : List ℕ) → LinksCuts k side known w (asked_say W.at text draws.now left.now)
+        → (content : Content)
+        → LinksCuts k side known w (asked_content W.at content draws.now left.now)
         (D.state before.now) (D.state after.now) (D.state crashed.now) }
     ensures takes { (k : Mechanism) (side : Side) (known : Known) (w : World) → IsAmongKnown known w
         → ((c : List ℕ) → (D.state crashed.now).image c

@@ -9,8 +9,9 @@ ghost use Rattle.endings.specs.declared.ending.Ending.{Ending};
 ghost use Rattle.endings.specs.declared.ending.Ending.TheVariants.{NoMemory};
 ghost use Rattle.kem_laws.specs.Mechanism.{Mechanism};
 ghost use Rattle.session_model.specs.Clients.{Client};
+ghost use Rattle.session_model.specs.Contents.{Content};
 ghost use Rattle.client.specs.declared.begin.Begin.{Begin};
-ghost use Rattle.command_lines.specs.Asking.{asked_drop, asked_say, asked_take};
+ghost use Rattle.command_lines.specs.Asking.{asked_content, asked_drop, asked_take};
 ghost use Rattle.session_commands.specs.Beginning.{Begins};
 ghost use Rattle.session_commands.specs.Checking.{RunsCheck};
 ghost use Rattle.session_commands.specs.Completing.{DidWork, IsAccepted, MayBegin, NoneFailed, ReadsWhole};
@@ -28,12 +29,12 @@ use dr_ports::{Draws, Link};
 /// accepts does its work, or memory is wanting; and so does one that shows what is kept. On a disk
 /// that holds nothing so does a beginning by a key that has a pair, and on any disk a look at it.
 pub fn complete<D: Disk, W: Draws>(before: &D, after: &D, draws: &W, left: &W)
-    ensures says { (k : Mechanism) (w : World) (side : Side) (text : List ℕ) (ending : Ending)
+    ensures says { (k : Mechanism) (w : World) (side : Side) (content : Content) (ending : Ending)
         (lines : List ℕ)
         → ReadsWhole k w side (D.state before.now)
         → NoneFailed (D.state before.now) (D.state after.now)
-        → IsAccepted k w side (asked_say W.at text draws.now left.now)
-        → RunsAct D.state k (asked_say W.at text draws.now left.now) before.now after.now ending
+        → IsAccepted k w side (asked_content W.at content draws.now left.now)
+        → RunsAct D.state k (asked_content W.at content draws.now left.now) before.now after.now ending
         lines → DidWork ending }
     ensures takes { (k : Mechanism) (w : World) (side : Side) (packet : List ℕ) (ending : Ending)
         (lines : List ℕ)

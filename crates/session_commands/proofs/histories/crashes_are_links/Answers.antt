@@ -1,11 +1,11 @@
-use Rattle.command_lines.specs.Asking.{asked_drop, asked_say, asked_take}
+use Rattle.command_lines.specs.Asking.{asked_content, asked_drop, asked_take}
 use Rattle.session_commands.proofs.Linking.{acts_cut, stays_cut, syncs_cut}
 use Rattle.session_commands.proofs.histories.crashes_are_links.Goals as goal
 
 pub returns-clause-says : goal.returns-clause-says
-returns-clause-says g c = λ k side known w which leaves text.
+returns-clause-says g c = λ k side known w which leaves content.
     acts_cut k side known w which (g.D.Disk.state c.args.before.now) (g.D.Disk.state c.args.after.now) (g.D.Disk.state c.args.crashed.now)
-    (g.met.D.Disk.lawful c.args.before.now) leaves (asked_say g.W.Draws.at text c.args.draws.now c.args.left.now)
+    (g.met.D.Disk.lawful c.args.before.now) leaves (asked_content g.W.Draws.at content c.args.draws.now c.args.left.now)
 
 pub returns-clause-takes : goal.returns-clause-takes
 returns-clause-takes g c = λ k side known w which leaves packet.

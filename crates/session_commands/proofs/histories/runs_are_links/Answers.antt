@@ -1,11 +1,11 @@
-use Rattle.command_lines.specs.Asking.{asked_drop, asked_say, asked_take}
+use Rattle.command_lines.specs.Asking.{asked_content, asked_drop, asked_take}
 use Rattle.session_commands.proofs.Linking.{acts_link, shows_link, stays_link, syncs_link}
 use Rattle.session_commands.proofs.histories.runs_are_links.Goals as goal
 
 pub returns-clause-says : goal.returns-clause-says
-returns-clause-says g c = λ k law side known w which lawful text.
+returns-clause-says g c = λ k law side known w which lawful content.
     acts_link k side known w which (c.client_grounds.ensures k law) (g.D.Disk.state c.args.before.now) (g.D.Disk.state c.args.after.now) lawful
-    (asked_say g.W.Draws.at text c.args.draws.now c.args.left.now)
+    (asked_content g.W.Draws.at content c.args.draws.now c.args.left.now)
 
 pub returns-clause-takes : goal.returns-clause-takes
 returns-clause-takes g c = λ k law side known w which lawful packet.

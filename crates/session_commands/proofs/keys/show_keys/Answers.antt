@@ -1,7 +1,6 @@
-use Rattle.std.proofs.Common.{List, None, Some, [], ap, ap₂, arith, subst, sym, ℕ, ◌∙◌, ◌≡◌}
+use Rattle.std.proofs.Common.{List, None, Some, arith, subst, sym, ℕ, ◌∙◌, ◌≡◌}
 use Rattle.dr_ports.specs.Writing.{Writes}
 use Rattle.endings.specs.Ends.{Ends}
-use Rattle.endings.specs.declared.ending.Ending.TheVariants.{Done, NoRelayKeys}
 use Rattle.session_model.specs.declared.relay_keys.RelayKeys.{RelayKeys}
 use Rattle.command_lines.specs.KeysLines.{both_lines, keys_lines, lines_of_keys}
 use Rattle.session_commands.specs.KeysShown.{ending_of_keys, keys_ending}

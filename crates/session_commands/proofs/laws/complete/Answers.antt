@@ -1,11 +1,11 @@
-use Rattle.command_lines.specs.Asking.{asked_drop, asked_say, asked_take}
+use Rattle.command_lines.specs.Asking.{asked_content, asked_drop, asked_take}
 use Rattle.session_commands.proofs.Completing.{act_completes, begin_completes, check_completes, show_completes}
 use Rattle.session_commands.proofs.laws.complete.Goals as goal
 
 pub returns-clause-says : goal.returns-clause-says
-returns-clause-says g c = λ k w side text ending lines whole none accepted runs.
+returns-clause-says g c = λ k w side content ending lines whole none accepted runs.
     act_completes g.D.Disk.state k w side
-    (asked_say g.W.Draws.at text c.args.draws.now c.args.left.now) c.args.before.now c.args.after.now
+    (asked_content g.W.Draws.at content c.args.draws.now c.args.left.now) c.args.before.now c.args.after.now
     ending lines whole none accepted runs
 
 pub returns-clause-takes : goal.returns-clause-takes

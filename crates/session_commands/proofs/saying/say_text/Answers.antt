@@ -1,4 +1,5 @@
 use Rattle.std.proofs.Common.{Err, [], refl, subst, sym}
+use Rattle.session_model.specs.Contents.{text_content}
 use Rattle.command_lines.specs.Asking.{asked_say}
 use Rattle.command_lines.specs.Closing.{ending_by, lines_of_ending}
 use Rattle.session_commands.specs.Acting.{RunsAct}
@@ -23,8 +24,8 @@ returns-in-Ok g c =
     let asked = asked_say g.W.Draws.at c.args.text.now c.args.draws.now c.say-acted.new.draws in
     subst (λ r. RunsAct g.D.Disk.state g.K.Kem.mechanism asked c.args.disk.now c.say-acted.new.disk (ending_by r) (lines_of_ending r))
     (sym c.said.ensures)
-    (say_runs (client_place g.K.Kem.mechanism) client_keeping g.D.Disk.state g.W.Draws.at g.K.Kem.mechanism c.args.text.now
-    c.args.draws.now c.say-acted.new.draws c.args.disk.now c.open.new.disk c.say-acted.new.disk
+    (say_runs (client_place g.K.Kem.mechanism) client_keeping g.D.Disk.state g.W.Draws.at g.K.Kem.mechanism
+    (text_content c.args.text.now) c.args.draws.now c.say-acted.new.draws c.args.disk.now c.open.new.disk c.say-acted.new.disk
     (g.met.D.Disk.lawful c.say-acted.new.disk) c.in-Ok.client c.say-acted.new.self (client_fits g.K.Kem.mechanism c.in-Ok.client)
     (opened_at g.K.Kem.mechanism c.in-Ok.client (g.D.Disk.state c.args.disk.now) (g.D.Disk.state c.open.new.disk)
     c.in-Ok.ensures.opened)
