@@ -11,6 +11,7 @@ use Rattle.dr_model.specs.Theorems.Acting.{IsFairAct}
 use Rattle.dr_ports.specs.States.{DrawsState}
 use Rattle.endings.specs.declared.ending.Ending.TheVariants.{NoName}
 use Rattle.kem_laws.specs.Mechanism.{Mechanism}
+use Rattle.session_model.specs.Contents.{text_content}
 use Rattle.session_model.specs.declared.answer.Answer.{Answer}
 use Rattle.book_model.specs.Rows.{under}
 use Rattle.book_store.specs.declared.layout.TheConstants.{BOOK_ROWS}
@@ -105,7 +106,7 @@ module _ {X : Type 0} (state : X → DiskState) (k : Mechanism) (written : Reads
         → RunsActAt (name_place k name) state k (asked_say draws text source left) start now
         (ending_by (worked_as (said_as result))) (lines_of_ending (worked_as (said_as result)))
     says_at at is result says =
-        say_runs (name_place k name) row_keeping state draws k text source left start mid now lawful (row_in book at) (row_in after at)
+        say_runs (name_place k name) row_keeping state draws k (text_content text) source left start mid now lawful (row_in book at) (row_in after at)
         (row_fits k name book opened.count at is) (row_opened k name book opened.count at is (state start) (state mid) opened quiet)
         (row_opening state k written name start mid opening seen) result says.exact
         (row_opens state k written name start mid opening seen book opened quiet at is) says.in_worlds

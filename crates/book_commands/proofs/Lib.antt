@@ -10,3 +10,8 @@ mod Forgets
 mod Firsts
 mod Begins
 mod Others
+mod FanAdded
+mod FanChanged
+mod FanRuns
+mod FanCodes
+mod FanWritten

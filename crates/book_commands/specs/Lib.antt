@@ -5,3 +5,6 @@ pub mod Beginning
 pub mod Forgetting
 pub mod Listing
 pub mod Others
+pub mod FanEndings
+pub mod FanLines
+pub mod Fanning
