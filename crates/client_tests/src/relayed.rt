@@ -4,7 +4,6 @@ ghost use Rattle.std.specs.Prelude.{◌≡◌, None, IfSome};
 
 use crate::acts::ZEROS;
 use bodies::Format;
-use boxes::TEXT_KIND;
 use client::Begin;
 use dr_base::{Key32, Side};
 use dr_disk::Mode;
@@ -13,7 +12,7 @@ use kem_laws::OpenKem;
 use parties::{Party, Seeded, hand_over};
 use relay_core::BoxSpec;
 use relay_link::RelayLink;
-use scripts::Call;
+use scripts::{Call, Said};
 use session_model::{Answer, Items};
 use std::alloc::Global;
 use std::test::Fail;
@@ -57,12 +56,13 @@ fn says(party: &mut Party<OpenKem>, text: &[u8]) -> bool
     requires { party.old.shut ≡ None }
     ensures { party.new.shut ≡ None }
 {
-    let seed = match party.say_check(TEXT_KIND, text) {
+    let said = Said::Text(text);
+    let seed = match party.say_check(said) {
         Ok(true) => Some(Key32 { bytes: [9; 32] }),
         Ok(false) => None,
         Err(_) => return false,
     };
-    matches!(party.act(Call::Say(Seeded { text, seed })), Answer::Said(_))
+    matches!(party.act(Call::Say(Seeded { said, seed })), Answer::Said(_))
 }
 
 /// Whether just these texts stand in a side's inbox, in order.

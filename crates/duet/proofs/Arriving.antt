@@ -29,7 +29,7 @@ use Rattle.client.proofs.Syncs.Covered.{LeadsOn, steps_arrive}
 use Rattle.client.proofs.Syncs.Steps.{HoldsOfSteps, heard_leads}
 use Rattle.parties.specs.Shuts.{Shut, failing_call, left_of}
 use Rattle.parties.specs.Stops.{cut_of}
-use Rattle.scripts.specs.Deeds.{Deed, acts, fails, reopens, stops, syncs}
+use Rattle.scripts.specs.Deeds.{Deed, acts, fails, joins, reopens, stops, syncs}
 use Rattle.scripts.specs.Sides.{deed_side, side_text}
 use Rattle.duet.specs.Outcomes.{WorldBeside, act_done_in, barring, deed_in, failed, freely_in, opened, unless_barred}
 use Rattle.duet.specs.Receipts.{DeedArrives, IsTaking, LeavesTake, TakesPackets}
@@ -153,6 +153,7 @@ module _ (k : Mechanism) (s : WorldBeside) (lawful : IsLawfulWorld k s.ends) whe
   freely_arrives (fails n side (drops_long id)) law honest take moves = absurd take
   freely_arrives (reopens side) law honest take moves = open_arrives side (shut_of s.shuts side) take
   freely_arrives (syncs side lost) law honest take moves = sync_arrives side lost law honest (moves refl)
+  freely_arrives (joins side id) law honest take moves = absurd take
 
   -- a deed
   pub deed_arrives : (deed : Deed) → IsLawfulMechanism k → IsHonest k s → TakesPackets s deed → DeedArrives k s deed

@@ -29,8 +29,9 @@ use Rattle.relay_core.specs.Boxes.{Box, Kept, empty_box}
 use Rattle.client.specs.Syncing.Lines.{own_box, peers_box}
 use Rattle.duet.specs.Relay.{first_keys, second_keys, spec_where}
 use Rattle.session_model.specs.BoxKeys.{relay_keys_of}
-use Rattle.duet.specs.Outcomes.{SidesBeside, SidesPlayed, WorldBeside, WorldPlayed, acted, barring, deed_in, deed_on, freely_in, freely_on, meeting_in, synced_in, unless_barred}
-use Rattle.scripts.specs.Deeds.{Deed, HasWholeSeed, acts, fails, reopens, stops, syncs}
+use Rattle.duet.specs.Outcomes.{SidesBeside, SidesPlayed, WorldBeside, WorldPlayed, acted, barring, deed_in, deed_on, freely_in, freely_on, lines_alone, meeting_in, synced_in, unless_barred}
+use Rattle.duet.specs.Replies.{shown_long}
+use Rattle.scripts.specs.Deeds.{Deed, HasWholeSeed, acts, fails, joins, reopens, stops, syncs}
 use Rattle.scripts.specs.Sides.{acting_side, deed_side}
 use Rattle.duet.specs.Stops.{cut_event, stopped_in, stopped_on}
 use Rattle.parties.specs.Stops.{cut_of}
@@ -140,6 +141,10 @@ freely_follows k s (syncs side lost) law honest whole unforged moves =
           (sym (seen_same k s.ends came.course.state s.shuts keeps));
       honest = sync_honest k law side s.ends s.shuts unshut s.boxes honest lost;
     }
+freely_follows k s (joins side id) law honest whole unforged moves = record {
+  same = ap (λ (kept : Client). lines_alone (shown_long side id kept.inbox) (seen_beside k s)) (kept_side k s.ends side);
+  honest = honest;
+}
 
 -- a deed
 abbrev DeedFollows : Mechanism → WorldBeside → Deed → Type 0

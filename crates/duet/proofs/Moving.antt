@@ -1,6 +1,6 @@
 -- Whose client moves, and whose stays as it is.
 use Rattle.std.proofs.Common.{Bool, None, Option, Some, ap, false, if◌then◌else◌, refl, sym, true, ◌∙◌, ◌≡◌}
-use Rattle.std.specs.Prelude.{IfSome, length}
+use Rattle.std.specs.Prelude.{IfSome}
 use Rattle.dr_base.specs.Position.{peer_of}
 use Rattle.dr_base.specs.declared.position.Side.{Side}
 use Rattle.dr_base.specs.declared.position.Side.TheVariants.{First, Second}

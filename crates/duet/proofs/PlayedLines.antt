@@ -15,7 +15,7 @@ use Rattle.dr_model.specs.Machines.Steps.{Step}
 use Rattle.session_model.specs.Clients.{Client}
 use Rattle.kem_laws.specs.Mechanism.{Mechanism}
 use Rattle.duet.specs.Outcomes.{Beside, Played, SidesBeside, SidesPlayed, barring, deed_on, failed, freely_on, opened}
-use Rattle.scripts.specs.Deeds.{Deed, acts, fails, reopens, stops, syncs}
+use Rattle.scripts.specs.Deeds.{Deed, acts, fails, joins, reopens, stops, syncs}
 use Rattle.scripts.specs.Sides.{acting_side, deed_side}
 use Rattle.duet.specs.Gathering.{gathers}
 use Rattle.parties.specs.Shuts.{Shut, failing_call, left_of}
@@ -84,6 +84,7 @@ freely_more k s (fails at side call) n t b =
     (failing_call at made.answer before after) n t b
 freely_more k s (reopens side) n t b = opened_more side s (gathers s.ends side) (shut_of s.shuts side) n t b
 freely_more k s (syncs side lost) n t b = wider n (n + 1) t (omega arith) b
+freely_more k s (joins side id) n t b = wider n (n + 1) t (omega arith) b
 
 deed_more : (k : Mechanism) (s : SidesBeside) (deed : Deed) (n : ℕ) (t : Tally) → IsBelow n t
     → IsBelow (n + 1) (counted_all (deed_side deed) (deed_on k s deed).answers t)

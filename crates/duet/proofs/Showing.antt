@@ -19,7 +19,7 @@ use Rattle.dr_model.specs.Machines.Events.{Event, SideCall, cuts, does, says, se
 use Rattle.kem_laws.specs.Mechanism.{Mechanism}
 use Rattle.session_model.specs.declared.answer.Answer.{Answer}
 use Rattle.duet.specs.Outcomes.{SidesBeside, SidesPlayed, barring, deed_on, failed, freely_on, opened}
-use Rattle.scripts.specs.Deeds.{Deed, acts, fails, reopens, stops, syncs}
+use Rattle.scripts.specs.Deeds.{Deed, acts, fails, joins, reopens, stops, syncs}
 use Rattle.dr_disk.specs.declared.call.Call.{Call as DiskCall}
 use Rattle.duet.specs.Gathering.{gathers, newest_from}
 use Rattle.duet.specs.Held.{shown}
@@ -200,6 +200,7 @@ freely_adds k s (fails n side call) =
     failed_adds k s (does side call) (left_of n before after after before) (failing_call n made.answer before after)
 freely_adds k s (reopens side) = opened_adds s side (shut_of s.shuts side)
 freely_adds k s (syncs side lost) = adds_none s.ends side _
+freely_adds k s (joins side id) = record { posts = omega arith; draws = omega arith }
 
 pub adds_few : (k : Mechanism) (s : SidesBeside) (deed : Deed) → AddsFew s.ends (deed_on k s deed).next.ends
 unfolding deed_on

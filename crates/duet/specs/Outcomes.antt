@@ -15,12 +15,12 @@ use Rattle.dr_model.specs.Machines.WorldActs.{act_in}
 use Rattle.dr_model.specs.Machines.Events.{Event, does}
 use Rattle.dr_model.specs.Machines.Sides.{Sides, client_of, step_on, with_client}
 use Rattle.dr_model.specs.Machines.Steps.{Step}
-use Rattle.dr_model.specs.Machines.Worlds.{World, step_of}
+use Rattle.dr_model.specs.Machines.Worlds.{World, inbox_in, step_of}
 use Rattle.dr_model.specs.Machines.WorldSides.{kept_in, sides_of}
-use Rattle.scripts.specs.Deeds.{Deed, acts, fails, reopens, stops, syncs}
+use Rattle.scripts.specs.Deeds.{Deed, acts, fails, joins, reopens, stops, syncs}
 use Rattle.scripts.specs.Sides.{acting_side, deed_side, side_text}
 use Rattle.duet.specs.Gathering.{gathers}
-use Rattle.duet.specs.Replies.{closed_line, failed_line, open_line, reply_of}
+use Rattle.duet.specs.Replies.{closed_line, failed_line, open_line, reply_of, shown_long}
 use Rattle.parties.specs.Shuts.{Shut, failing_call, left_of}
 use Rattle.duet.specs.Shuts.{Shuts, act_of_event, needs_open, shut_of, with_shut}
 use Rattle.duet.specs.Stops.{stopped_in, stopped_on}
@@ -142,6 +142,7 @@ freely_on k s (stops n mode side call) =
 freely_on k s (fails n side call) = failed_on k s n (does side call)
 freely_on k s (reopens side) = opened side s (gathers s.ends side) (shut_of s.shuts side)
 freely_on k s (syncs side lost) = synced_on k s side lost
+freely_on k s (joins side id) = lines_alone (shown_long side id (client_of s.ends side).inbox) s
 
 -- and the machine
 abbrev pub freely_in : Mechanism → WorldBeside → Deed → WorldPlayed
@@ -152,6 +153,7 @@ freely_in k s (stops n mode side call) =
 freely_in k s (fails n side call) = failed_in k s n (does side call)
 freely_in k s (reopens side) = opened side s (act_done_in k s.ends side) (shut_of s.shuts side)
 freely_in k s (syncs side lost) = synced_in k s side lost
+freely_in k s (joins side id) = lines_alone (shown_long side id (inbox_in s.ends side)) s
 
 -- what bars a deed: its side is closed, and it asks for an open client
 unfoldable pub barring : {L : Type 0} → Shuts L → Deed → Option (Shut L)

@@ -9,7 +9,7 @@ use Rattle.dr_model.specs.Machines.Worlds.{view_of}
 use Rattle.dr_model.specs.Theorems.Receipts.{EndsWaiting}
 use Rattle.kem_laws.specs.Mechanism.{Mechanism}
 use Rattle.parties.specs.Shuts.{Shut}
-use Rattle.scripts.specs.Deeds.{Deed, acts, fails, reopens, stops, syncs}
+use Rattle.scripts.specs.Deeds.{Deed, acts, fails, joins, reopens, stops, syncs}
 use Rattle.scripts.specs.Sides.{deed_side}
 use Rattle.duet.specs.Outcomes.{WorldBeside, deed_in}
 use Rattle.duet.specs.Shuts.{shut_of}
@@ -40,6 +40,7 @@ TakesPackets s (stops n mode side call) = IsTake call
 TakesPackets s (fails n side call) = IsTake call
 TakesPackets s (reopens side) = LeavesTake (shut_of s.shuts side)
 TakesPackets s (syncs side lost) = ⊤
+TakesPackets s (joins side id) = ⊥
 
 -- each own text of its that waits for a receipt before the deed, and doesn't after it, was opened
 -- by the other side

@@ -1,5 +1,5 @@
 -- The lines of a trace: one for each event, and after a look one for each text that it shows.
-use Rattle.std.specs.Prelude.{Bool, false, true, ℕ, List, [], ◌++◌, flat_map, codes}
+use Rattle.std.specs.Prelude.{Bool, Err, Ok, Result, false, true, ℕ, List, [], ◌++◌, flat_map, codes}
 use Rattle.dr_base.specs.declared.position.Position.{Position}
 use Rattle.dr_base.specs.declared.position.Side.{Side}
 use Rattle.dr_disk.specs.declared.call.Call.{Call}
@@ -10,7 +10,10 @@ use Rattle.session_model.specs.declared.answer.Answer.TheVariants.{Seeded}
 use Rattle.dr_model.specs.Machines.Steps.{Shown, Step, places, texts}
 use Rattle.dr_model.specs.Machines.Events.{Event}
 use Rattle.answer_lines.specs.Answers.{answer_text}
+use Rattle.answer_lines.specs.Longs.{long_line, long_refusal_text}
 use Rattle.answer_lines.specs.Texts.{content_line, place_line}
+use Rattle.long_text.specs.Longs.{long_of}
+use Rattle.long_text.specs.declared.refusal.LongRefusal.{LongRefusal}
 use Rattle.scripts.specs.Sides.{acting_side, side_text}
 
 -- the line of a side's event with its answer; a seed has none
@@ -35,6 +38,22 @@ shown_lines side (places waiting) = flat_map (waiting_line side) waiting
 unfoldable pub reply_of : {S : Type 0} → Event → Step S → List ℕ
 reply_of event step =
     reply_line (acting_side event) step.answer ++ shown_lines (acting_side event) step.shown
+
+-- ---- a long text
+
+-- why there is none
+unfoldable pub unjoined_line : Side → LongRefusal → List ℕ
+unjoined_line side refusal =
+    side_text side ++ codes "refused " ++ long_refusal_text refusal ++ codes "\n"
+
+-- the line of the long text of an id that a side shows, or of why it has none
+abbrev pub joined_line : Side → ℕ → Result (List ℕ) LongRefusal → List ℕ
+joined_line side id (Ok text) = long_line (side_text side) id text
+joined_line side id (Err refusal) = unjoined_line side refusal
+
+-- of what stands in its inbox
+abbrev pub shown_long : Side → ℕ → List Entry → List ℕ
+shown_long side id inbox = joined_line side id (long_of id inbox)
 
 -- ---- a call on a side's disk that fails
 

@@ -8,7 +8,7 @@ use Rattle.kem_laws.specs.Mechanism.{Mechanism}
 use Rattle.duet.specs.Shuts.{both_open}
 use Rattle.duet.specs.Outcomes.{Beside, Played, SidesBeside, WorldBeside, deed_in, deed_on}
 use Rattle.duet.specs.Relay.{opening_boxes}
-use Rattle.scripts.specs.Deeds.{Deed, acts, fails, reopens, stops, syncs}
+use Rattle.scripts.specs.Deeds.{Deed, acts, fails, joins, reopens, stops, syncs}
 use Rattle.scripts.specs.Script.{Scripted}
 
 -- the lines of deeds, each done from what stands
@@ -49,13 +49,14 @@ trace_of k script = lines_by (deed_in k) (beginning_in k script) script.deeds
 
 -- ---- unforged scripts
 
--- no packet that the deed makes up has a forged tag; a sync or an opening makes up none
+-- no packet that the deed makes up has a forged tag; a sync, an opening or a look makes up none
 abbrev pub IsUnforgedDeed : Mechanism → WorldBeside → Deed → Type 0
 IsUnforgedDeed k s (acts event) = IsUnforgedEvent k s.ends event
 IsUnforgedDeed k s (stops n mode side call) = IsUnforgedCall k s.ends side call
 IsUnforgedDeed k s (fails n side call) = IsUnforgedCall k s.ends side call
 IsUnforgedDeed k s (reopens side) = ⊤
 IsUnforgedDeed k s (syncs side lost) = ⊤
+IsUnforgedDeed k s (joins side id) = ⊤
 
 -- and so in a run
 abbrev pub IsUnforgedPlay : Mechanism → WorldBeside → List Deed → Type 0

@@ -13,6 +13,7 @@ ghost use Rattle.duet.specs.declared.tally.Tally.{Tally as Counted};
 ghost use Rattle.duet.specs.Playing.{PlaysDeed, PlaysFreely};
 ghost use Rattle.scripts.specs.Lined.{lined_deed, stop_deed};
 
+use crate::joining::play_joining;
 use crate::reply::{closed_line, failed_line, open_line};
 use crate::sides::Duet;
 use crate::tally::Tally;
@@ -25,14 +26,17 @@ use std::alloc::{AllocError, Global};
 
 /// Why a deed wasn't done to its end.
 pub enum Cut {
-    /// No memory was left to open a side again.
+    /// No memory was left to open a side again, or to join a long text.
     Memory,
     /// A write failed.
     Write,
 }
 
 /// Both sides after a deed, unless a write failed.
-fn unless_failed<K: Kem>(duet: Duet<K>, written: Result<(), Failed>) -> Result<Duet<K>, Cut>
+pub(crate) fn unless_failed<K: Kem>(
+    duet: Duet<K>,
+    written: Result<(), Failed>,
+) -> Result<Duet<K>, Cut>
     ensures { MatchResult written (λ _. result ≡ Ok duet) (λ _. result ≡ Err Cut.Write) }
 {
     match written {
@@ -150,6 +154,7 @@ fn play_freely<K: Kem, O: Sink>(
             let written = duet.sync(out, *side, *lost);
             unless_failed(duet, written)
         }
+        Lined::Joining(side, id) => play_joining(alloc, duet, *side, *id, out),
     }
 }
 

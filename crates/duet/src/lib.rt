@@ -21,6 +21,7 @@ pub use tally::{SideTally, Tally};
 mod deeds;
 mod draws;
 mod fails;
+mod joining;
 mod laws;
 mod network;
 mod playing;

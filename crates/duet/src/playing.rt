@@ -23,7 +23,7 @@ use std::alloc::Global;
 #[derive(Clone, Copy)]
 pub enum PlayError {
     /// There was no memory for the two sides, and nothing was written; or none to open a side
-    /// again, and the lines before were written.
+    /// again or to join a long text, and the lines before were written.
     Memory,
     /// The shared key gives no first pair; nothing was written.
     NoPair,
@@ -51,7 +51,7 @@ pub fn play<K: Kem, O: Sink>(
     ensures none { IsErrOf result PlayError.NoPair
         → IsNone (K.mechanism.meaning.pair_of (agreement_seed script.now.key))
         × ((O.at out.new).taken ≡ (O.at out.old).taken) }
-    // None for the two sides, or none, after these lines, to open a side again.
+    // None for the two sides, or none, after these lines, to open a side again or to join a text.
     ensures memory { IsErrOf result PlayError.Memory → ((O.at out.new).taken ≡ (O.at out.old).taken)
         ⊎ (TookBeginning (O.at out.old).taken (O.at out.new).taken (played K.mechanism script.now)
         × IsSome (K.mechanism.meaning.pair_of (agreement_seed script.now.key))) }

@@ -6,16 +6,14 @@ ghost use Rattle.dr_base.specs.Bytes.{AreBytes};
 ghost use Rattle.dr_model.specs.Machines.Events.{does, says, takes};
 ghost use Rattle.dr_model.specs.Machines.Steps.{amount_of};
 ghost use Rattle.duet.specs.Acts.{IsPrepared};
-ghost use Rattle.scripts.specs.Seen.{call_event, source_of};
-ghost use Rattle.session_model.specs.Contents.{text_content};
+ghost use Rattle.scripts.specs.Seen.{call_event, content_said, source_of};
 
 use crate::network::packet_of;
 use crate::sides::Duet;
-use boxes::TEXT_KIND;
 use dr_base::Side;
 use kem_laws::Kem;
 use parties::{ClientCall, Seeded};
-use scripts::{Call, LineCall, Source};
+use scripts::{Call, LineCall, Said, Source};
 use session_model::{Amount, Answer};
 
 /// Bytes are below 256: a caller that needs this calls it.
@@ -36,22 +34,22 @@ fn items_in(amount: Amount, standing: u32) -> u32
 }
 
 impl<K: Kem> Duet<K> {
-    /// A side would say a text. A draw is made, and used up, only where the text may be said and
-    /// needs a seed.
-    fn saying<'a>(&mut self, side: Side, text: &'a [u8]) -> Result<ClientCall<'a>, Answer>
+    /// A side would say a text, or a part of a long one. A draw is made, and used up, only where
+    /// that may be said and needs a seed.
+    fn saying<'a>(&mut self, side: Side, said: Said<'a>) -> Result<ClientCall<'a>, Answer>
         requires { self.old.sides.draws.made < 2 ^ 32 - 1 }
-        ensures { let event = does side (says (text_content text.entry.now)) in
+        ensures { let event = does side (says (content_said said.entry)) in
             IsPrepared K.mechanism self.old self.new side event result }
     {
-        match self.party(side).say_check(TEXT_KIND, text) {
+        match self.party(side).say_check(said) {
             Err(refusal) => Err(Answer::Refused(refusal)),
-            Ok(false) => Ok(Call::Say(Seeded { text, seed: None })),
+            Ok(false) => Ok(Call::Say(Seeded { said, seed: None })),
             Ok(true) => {
                 let seed = self.draws.next(&self.key);
                 // The proof takes the length of the seed from this.
                 let _bytes = &seed.bytes;
                 Ok(Call::Say(Seeded {
-                    text,
+                    said,
                     seed: Some(seed),
                 }))
             }
@@ -79,12 +77,13 @@ impl<K: Kem> Duet<K> {
             IsPrepared K.mechanism self.old self.new side event result }
     {
         match call {
-            Call::Say(text) => self.saying(side, text),
+            Call::Say(said) => self.saying(side, said),
             Call::Take(source) => self.taking(side, source),
             Call::Drop(items, amount) => {
                 let standing = self.party(side).standing(items);
                 Ok(Call::Drop(items, items_in(amount, standing)))
             }
+            Call::DropLong(id) => Ok(Call::DropLong(id)),
         }
     }
 }

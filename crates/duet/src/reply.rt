@@ -1,12 +1,13 @@
 //! The lines of a trace.
 
 ghost use Rattle.std.specs.Prelude.{◌≡◌, ◌≤◌, length};
-ghost use Rattle.duet.specs.Replies.{call_name, closed_line, failed_line, open_line, reply_line};
+ghost use Rattle.duet.specs.Replies.{call_name, closed_line, failed_line, open_line, reply_line, unjoined_line};
 
-use answer_lines::put_answer;
+use answer_lines::{put_answer, put_long_refusal};
 use dr_base::Side;
 use dr_disk::Call;
 use dr_ports::OutputLine;
+use long_text::LongRefusal;
 use scripts::side_name;
 use session_model::Answer;
 
@@ -21,6 +22,19 @@ pub fn reply(side: Side, answer: Answer) -> OutputLine
     }
     line.text(side_name(side));
     put_answer(&mut line, answer);
+    line.text(b"\n");
+    line
+}
+
+/// The line of why a side has no long text.
+#[tactic(auto, unfolding(crate::specs::Replies::unjoined_line))]
+pub fn unjoined_line(side: Side, refusal: LongRefusal) -> OutputLine
+    ensures { result ≡ unjoined_line side refusal }
+{
+    let mut line = OutputLine::new();
+    line.text(side_name(side));
+    line.text(b"refused ");
+    put_long_refusal(&mut line, refusal);
     line.text(b"\n");
     line
 }

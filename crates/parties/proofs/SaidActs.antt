@@ -1,4 +1,4 @@
--- A text that was checked, said by a client with the seed that it needs.
+-- What was checked, said by a client with the seed that it needs.
 use Rattle.std.proofs.Common.{Bool, List, None, Ok, Option, Result, Some, [], ap, arith, false, refl, subst, sym, true, ℕ, ◌∙◌, ◌∷◌, ◌≡◌}
 use Rattle.std.specs.Prelude.{is_none, is_some, ◌&&◌}
 use Rattle.dr_base.specs.Causes.{Rose}

@@ -5,11 +5,11 @@ use Rattle.dr_base.specs.Bytes.{AreBytes}
 use Rattle.dr_base.specs.declared.key.Key32.{Key32}
 use Rattle.dr_model.specs.Machines.Acts.{Act, dropping, saying, taking}
 use Rattle.session_model.specs.Clients.{Client, say_check}
-use Rattle.session_model.specs.Contents.{text_content}
-use Rattle.session_model.specs.declared.answer.Which.TheVariants.{Oldest}
+use Rattle.session_model.specs.declared.answer.Which.TheVariants.{OfId, Oldest}
 use Rattle.client.specs.Outcomes.{Outcome, acknowledged, faulted, is_closed, refused, undrawn}
+use Rattle.scripts.specs.Seen.{content_said}
 use Rattle.scripts.specs.declared.call.Call.{Call}
-use Rattle.scripts.specs.declared.call.Call.TheVariants.{Drop, Say, Take}
+use Rattle.scripts.specs.declared.call.Call.TheVariants.{Drop, DropLong, Say, Take}
 use Rattle.parties.specs.declared.acts.Ended.{Ended}
 use Rattle.parties.specs.declared.acts.Ended.TheVariants.{Acknowledged, Faulted, Refused}
 use Rattle.parties.specs.declared.acts.Seeded.{Seeded}
@@ -24,9 +24,10 @@ draw_given seed = option_map (λ key. key.bytes) seed
 
 -- the act that a call is
 abbrev pub act_of_call : CallOfClient → Act
-act_of_call (Say said) = saying (text_content said.text.now) (draw_given said.seed)
+act_of_call (Say seeded) = saying (content_said seeded.said) (draw_given seeded.seed)
 act_of_call (Take packet) = taking packet.items
 act_of_call (Drop items n) = dropping (Oldest items n)
+act_of_call (DropLong id) = dropping (OfId id)
 
 -- what is said passed the check, and has a seed of 32 bytes exactly where it needs one; bytes are bytes
 abbrev pub IsChecked : Client → Act → Type 0

@@ -2,11 +2,12 @@
 
 ghost use Rattle.std.specs.Prelude.{◌≡◌, None, Ok, is_some};
 ghost use Rattle.dr_disk.specs.MemoryDisks.{state_of};
-ghost use Rattle.dr_model.specs.Machines.Acts.{act_on, saying};
+ghost use Rattle.dr_model.specs.Machines.Acts.{act_on, dropping, saying};
 ghost use Rattle.session_model.specs.Clients.{say_check};
-ghost use Rattle.session_model.specs.Contents.{text_content};
-ghost use Rattle.client.specs.Clients.{IsReady};
+ghost use Rattle.scripts.specs.Seen.{content_said};
+ghost use Rattle.client.specs.Clients.{IsReady, MayActOn};
 ghost use Rattle.client.specs.Outcomes.{Acts, StaysPassing, dropped_as, said_as, taken_as};
+ghost use Rattle.client.specs.Saying.{SaysWithDraw};
 ghost use Rattle.parties.specs.Acts.{IsChecked, IsEnded, act_of_call, draw_given, ended_as};
 
 use crate::given::Given;
@@ -14,14 +15,15 @@ use crate::post::Packet;
 use client::{Client, DropRefusal, SayRefusal, TakeRefusal};
 use dr_base::{Key32, Position};
 use dr_disk::{Call as DiskCall, MemoryDisk};
+use dr_ports::Draws;
 use kem_laws::Kem;
-use scripts::Call;
+use scripts::{Call, Said};
 use session_model::{Answer, Refusal, Which};
 
-/// A text, with a seed exactly where the side needs one to say it.
+/// What is said, with a seed exactly where the side needs one to say it.
 #[derive(Drop)]
 pub struct Seeded<'a> {
-    pub text: &'a [u8],
+    pub said: Said<'a>,
     pub seed: Option<Key32>,
 }
 
@@ -39,7 +41,7 @@ pub enum Ended {
     Faulted(DiskCall),
 }
 
-/// How the saying of a text ends.
+/// How it ends that something is said.
 fn say_ended(said: Result<Position, SayRefusal>) -> Ended
     requires { IsEnded (said_as said) }
     ensures { ended_as result ≡ said_as said }
@@ -79,24 +81,53 @@ fn drop_ended(answer: Answer, dropped: Result<(), DropRefusal>) -> Ended
     }
 }
 
-/// Says a text that the side may say, with a seed exactly where it needs one.
+/// Says a text, or a part of a long one.
+fn say_content<K: Kem, W: Draws>(
+    client: &mut Client<K>,
+    disk: &mut MemoryDisk,
+    said: Said<'_>,
+    draws: &mut W,
+) -> Result<Position, SayRefusal>
+    requires { MayActOn client.old (state_of disk.old) }
+    ensures exact { SaysWithDraw state_of W.at K.mechanism (content_said said.entry)
+        client.old client.new disk.old disk.new draws.old draws.new result }
+    ensures fate { StaysPassing (state_of disk.old) (state_of disk.new) (said_as result) }
+{
+    match said {
+        Said::Text(text) => client.say(disk, text, draws),
+        Said::Part(part) => client.say_part(disk, &part.part(), draws),
+    }
+}
+
+/// Says what the side may say, with a seed exactly where it needs one.
 fn say<K: Kem>(
     client: &mut Client<K>,
     disk: &mut MemoryDisk,
-    text: &[u8],
+    said: Said<'_>,
     seed: Option<Key32>,
 ) -> Ended
     requires open { client.old.closed ≡ None }
     requires ready { IsReady client.old.kept client.old.store (state_of disk.old) }
     requires checked { let draw = draw_given seed in
-        say_check client.old.kept (text_content text.now) ≡ Ok (is_some draw) }
-    ensures acts { let act = saying (text_content text.now) (draw_given seed) in
+        say_check client.old.kept (content_said said) ≡ Ok (is_some draw) }
+    ensures acts { let act = saying (content_said said.entry) (draw_given seed) in
         Acts state_of (act_on K.mechanism client.old.kept act)
         client.old client.new disk.old disk.new (ended_as result) }
     ensures fate { StaysPassing (state_of disk.old) (state_of disk.new) (ended_as result) }
 {
     let mut source = Given::new(seed);
-    say_ended(client.say(disk, text, &mut source))
+    say_ended(say_content(client, disk, said, &mut source))
+}
+
+/// Lets items of a box go.
+fn let_go<K: Kem>(client: &mut Client<K>, disk: &mut MemoryDisk, which: Which) -> Ended
+    requires open { client.old.closed ≡ None }
+    requires ready { IsReady client.old.kept client.old.store (state_of disk.old) }
+    ensures acts { Acts state_of (act_on K.mechanism client.old.kept (dropping which))
+        client.old client.new disk.old disk.new (ended_as result) }
+    ensures fate { StaysPassing (state_of disk.old) (state_of disk.new) (ended_as result) }
+{
+    drop_ended(Answer::Dropped(which), client.drop_items(disk, which))
 }
 
 /// Does an act, exactly as the side would by itself, but for a call on the disk that fails.
@@ -109,11 +140,9 @@ pub fn perform<K: Kem>(client: &mut Client<K>, disk: &mut MemoryDisk, call: Clie
     ensures fate { StaysPassing (state_of disk.old) (state_of disk.new) (ended_as result) }
 {
     match call {
-        Call::Say(Seeded { text, seed }) => say(client, disk, text, seed),
+        Call::Say(Seeded { said, seed }) => say(client, disk, said, seed),
         Call::Take(packet) => take_ended(client.take(disk, packet.as_slice())),
-        Call::Drop(items, n) => {
-            let which = Which::Oldest(items, n);
-            drop_ended(Answer::Dropped(which), client.drop_items(disk, which))
-        }
+        Call::Drop(items, n) => let_go(client, disk, Which::Oldest(items, n)),
+        Call::DropLong(id) => let_go(client, disk, Which::OfId(id)),
     }
 }

@@ -29,6 +29,7 @@ mod failing;
 mod given;
 mod handing;
 mod meeting;
+mod parts;
 mod party;
 mod post;
 mod stopping;

@@ -3,7 +3,9 @@
 ghost use Rattle.std.specs.Prelude.{◌≡◌, ◌≤◌, ◌↔◌, ◌<◌, ◌-◌, length, None, Some, IfOk, IfSome, IsNone, IsSome, IsErrOf, option_map, slice_get};
 ghost use Rattle.boxes.specs.Seen.{entry_seen};
 ghost use Rattle.session_model.specs.Clients.{say_check, summary_of};
-ghost use Rattle.session_model.specs.Contents.{content_with};
+ghost use Rattle.long_text.specs.Longs.{long_of};
+ghost use Rattle.long_text.specs.Seen.{Fills};
+ghost use Rattle.scripts.specs.Seen.{content_said};
 ghost use Rattle.dr_model.specs.Machines.Acts.{act_on, standing_with};
 ghost use Rattle.dr_model.specs.Machines.Steps.{settled, step};
 ghost use Rattle.session_model.specs.Schedule.{agreement_seed};
@@ -15,12 +17,15 @@ ghost use Rattle.client.specs.Syncing.Lines.{own_box, peers_box};
 ghost use Rattle.client.specs.declared.refusals.BeginRefusal.TheVariants.{NoPair as NoFirstPair};
 
 use crate::acts::{ClientCall, Ended, perform};
+use crate::parts::part_check;
 use crate::post::Post;
-use boxes::Entry;
+use boxes::{Entry, TEXT_KIND};
 use client::{AREA_SIZE, Begin, BeginRefusal, Client, Names};
 use dr_base::{Position, TEXT_LIMIT};
 use dr_disk::{Call, MemoryDisk};
 use kem_laws::Kem;
+use long_text::{LONG_LIMIT, LongRefusal};
+use scripts::Said;
 use session_model::{Answer, Items, Refusal, Summary};
 use std::alloc::Global;
 use std::marker::Model;
@@ -153,12 +158,21 @@ impl<K: Kem> Party<K> {
         self.client.state()
     }
 
-    /// Whether bytes of a kind may be said, a text or a part of a long one, and then whether that
-    /// needs a seed.
-    pub fn say_check(&self, kind: u8, text: &[u8]) -> Result<bool, Refusal>
-        ensures { result ≡ say_check self.now.kept (content_with kind text.now) }
+    /// Whether a text or a part of a long one may be said, and then whether that needs a seed.
+    pub fn say_check(&self, said: Said<'_>) -> Result<bool, Refusal>
+        ensures { result ≡ say_check self.now.kept (content_said said.entry) }
     {
-        self.client.say_check(kind, text)
+        match said {
+            Said::Text(text) => self.client.say_check(TEXT_KIND, text),
+            Said::Part(part) => part_check(&self.client, &part.part()),
+        }
+    }
+
+    /// Joins the parts of the long text of an id that stand in its inbox, as its client does.
+    pub fn long(&self, id: u32, into: &mut [u8; LONG_LIMIT]) -> Result<usize, LongRefusal>
+        ensures { Fills into.old into.new result (long_of id self.now.kept.inbox) }
+    {
+        self.client.long(id, into)
     }
 
     /// The kind of the call that closed its client, if it is closed.

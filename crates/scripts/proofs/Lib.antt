@@ -5,6 +5,7 @@ pub mod Making
 pub mod PrintedDeeds
 pub mod PrintedFails
 pub mod PrintedLines
+pub mod PrintedLongs
 pub mod PrintedParts
 pub mod PrintedStops
 pub mod Reading

@@ -1,5 +1,5 @@
 -- A script that is made, round by round.
-use Rattle.std.proofs.Common.{◌≡◌, ◌∙◌, ℕ, zero, suc, ◌+◌, ◌%◌, ◌*◌, ◌^◌, ◌<◌, ◌≤◌, ◌==◌, Bool, true, false, cond, refl, sym, ap, arith, append_assoc, append-nil, List, [], ◌∷◌, ◌++◌, length, codes, decimal}
+use Rattle.std.proofs.Common.{◌≡◌, ◌∙◌, ℕ, zero, suc, ◌+◌, ◌%◌, ◌*◌, ◌^◌, ◌<◌, ◌≤◌, ◌==◌, Bool, true, false, cond, inl, refl, sym, ap, arith, append_assoc, append-nil, List, [], ◌∷◌, ◌++◌, length, codes, decimal}
 use Rattle.std.specs.Prelude.{⊤, nat_lt}
 use Rattle.std.proofs.lemmas.Bool.Decides.{nat_tests}
 use Rattle.std.proofs.lemmas.Fmt.{decimal_digit}
@@ -56,7 +56,7 @@ IsWithin most Rests = ⊤
 
 turn_lines : (round most : ℕ) (turn : Turn) → round < 2 ^ 32 → most < 2 ^ 32 → IsWithin most turn → AreLines (turn_deeds round turn)
 unfolding turn_deeds
-turn_lines round most (Says side) h few within = (record { sayable = refl; one = said_line side round h }, (record { sayable = omega arith; one = sent_line side }, tt))
+turn_lines round most (Says side) h few within = (record { sayable = inl refl; one = said_line side round h }, (record { sayable = omega arith; one = sent_line side }, tt))
 turn_lines round most (Takes side nth) h few within =
     let fits : nth < 2 ^ 32 = omega arith in
     (record { sayable = fits; one = taken_line side nth fits }, (record { sayable = tt; one = done_line side }, tt))

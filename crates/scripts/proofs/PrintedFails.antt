@@ -7,11 +7,12 @@ use Rattle.std.proofs.lemmas.Bool.Decides.{nat_tests}
 use Rattle.dr_base.specs.declared.position.Side.{Side}
 use Rattle.dr_model.specs.Machines.Events.{SideCall}
 use Rattle.answer_lines.specs.Answers.{drop_word}
-use Rattle.scripts.specs.Deeds.{Deed, fails, reopens, syncs}
+use Rattle.scripts.specs.Deeds.{Deed, fails, joins, reopens, syncs}
+use Rattle.scripts.specs.Longs.{drop_long_words, join_words, part_words}
 use Rattle.scripts.specs.Printed.{CountsFromOne, IsSayable, call_text, fail_text, line_text}
 use Rattle.scripts.specs.Words.{after_prefix, bytes_words, call_words, called_words, deed_words, drop_words, fail_read, fail_words, flip_words, halves_of, if_counted, line_read, look_words, open_words, say_words, side_words, stop_words, sync_words, take_words}
-use Rattle.scripts.proofs.PrintedLines.{called_back, deed_back, spaced}
-use Rattle.scripts.proofs.PrintedParts.{digits_of, digits_without, halves_back, number_back}
+use Rattle.scripts.proofs.PrintedLines.{called_back, deed_back}
+use Rattle.scripts.proofs.PrintedParts.{digits_of, digits_without, halves_back, number_back, spaced}
 use Rattle.scripts.proofs.PrintedStops.{call_back}
 
 pub some_counted : (n : ℕ) → 1 ≤ n → if_counted n ≡ Some n
@@ -40,7 +41,7 @@ fail_back side n one words h call = counted_back side n one words h call
 
 -- no event begins so
 no_event : (side : Side) (n : ℕ) (words : List ℕ) → side_words side (fail_text n words) ≡ None
-unfolding fail_text after_prefix side_words called_words drop_words drop_word say_words take_words flip_words bytes_words look_words
+unfolding fail_text after_prefix side_words called_words drop_words drop_word say_words part_words drop_long_words take_words flip_words bytes_words look_words
 no_event side n words = refl
 
 -- and no stop
@@ -54,7 +55,8 @@ unfolding line_text deed_words
 fail_line_back n side call h =
     let words = fail_text n (call_text call) in
     let said = call_back call (call_text call) h.1 (called_back call h.2) in
-    let more : Option Deed → Option Deed = λ o. option_or o (option_or (open_words side words) (option_map (syncs side) (sync_words words))) in
+    let more : Option Deed → Option Deed = λ o. option_or o (option_or (open_words side words)
+    (option_or (option_map (syncs side) (sync_words words)) (option_map (joins side) (join_words words)))) in
     deed_back side words (no_event side n (call_text call))
     ∙ ap (λ o. option_or o (more (fail_words side words))) (no_stop side n (call_text call))
     ∙ ap more (fail_back side n call (call_text call) h.0 said)
@@ -63,7 +65,7 @@ fail_line_back n side call h =
 
 -- no event begins so
 opens_no_event : (side : Side) → side_words side (codes "open") ≡ None
-unfolding after_prefix side_words called_words drop_words drop_word say_words take_words flip_words bytes_words look_words
+unfolding after_prefix side_words called_words drop_words drop_word say_words part_words drop_long_words take_words flip_words bytes_words look_words
 opens_no_event side = refl
 
 pub open_line_back : (side : Side) → line_read (line_text (reopens side)) ≡ Some (reopens side)

@@ -1,5 +1,5 @@
 -- What the printed line of an event is read as.
-use Rattle.std.proofs.Common.{◌≡◌, ℕ, ◌^◌, ◌<◌, List, [], ◌∷◌, ◌++◌, length, Some, None, refl, sym, ◌∙◌, ap, arith, append_assoc, subst}
+use Rattle.std.proofs.Common.{◌≡◌, ℕ, ◌^◌, ◌<◌, List, [], ◌∷◌, ◌++◌, length, Some, None, refl, sym, ◌∙◌, ap, arith, subst}
 use Rattle.std.specs.Prelude.{nat_eq, ◌==◌, codes, decimal, option_map}
 use Rattle.std.specs.List.{starts_with}
 use Rattle.std.specs.Option.{option_and_then, option_or}
@@ -12,16 +12,17 @@ use Rattle.hex.proofs.HexLemmas.{decode_sized-encode_lower}
 use Rattle.dr_base.specs.declared.position.Position.{Position}
 use Rattle.dr_base.specs.declared.position.Side.{Side}
 use Rattle.dr_base.specs.declared.position.Side.TheVariants.{First, Second}
-use Rattle.session_model.specs.Contents.{Content}
 use Rattle.session_model.specs.declared.answer.Items.TheVariants.{Packets, Texts}
 use Rattle.dr_model.specs.Machines.Events.{Event, PacketSource, SideCall, cuts, does, drops, drops_long, of_bytes, of_flip, of_number, of_position, says, seeds, shows_awaiting, shows_inbox, shows_state, takes}
 use Rattle.scripts.specs.Number.{script_number_read}
+use Rattle.scripts.specs.Longs.{drop_long_words, part_words}
 use Rattle.scripts.specs.Printed.{IsNumbered, IsSayableCall, IsSayableEvent, IsSayableSource, call_text, event_text, source_text}
 use Rattle.answer_lines.specs.Answers.{drop_word, position_text}
 use Rattle.scripts.specs.Sides.{side_text}
 use Rattle.scripts.specs.Deeds.{acts}
 use Rattle.scripts.specs.Words.{after_prefix, bytes_words, called_words, deed_words, drop_words, flip_read, flip_words, halves_of, line_read, look_words, packet_read, plain_read, position_read, say_words, seed_read, side_named, side_words, sided, source_words, take_words}
-use Rattle.scripts.proofs.PrintedParts.{Without, amount_back, digit_from, both_without, digits_of, digits_without, halves_back, hex_back, number_back, point, position_back}
+use Rattle.scripts.proofs.PrintedLongs.{content_back}
+use Rattle.scripts.proofs.PrintedParts.{Without, amount_back, digit_from, both_without, digits_of, digits_without, halves_back, hex_back, number_back, point, position_back, spaced}
 
 -- ---- what a side does
 
@@ -53,9 +54,6 @@ position_spaceless : (p : Position) → IsNumbered p → Without 32 (position_te
 unfolding position_text
 position_spaceless p h = subst (Without 32) (sym (point (decimal p.epoch) (decimal p.index))) (spaceless p h)
 
-pub spaced : (text bit : List ℕ) → text ++ codes " " ++ bit ≡ text ++ 32 ∷ bit
-spaced text bit = append_assoc text (codes " ") bit
-
 flip_back : (p : Position) (bit : ℕ) → IsNumbered p → bit < 2 ^ 32
     → option_and_then flip_read (halves_of 32 (position_text p ++ codes " " ++ decimal bit)) ≡ Some (of_flip p bit)
 flip_back p bit h k =
@@ -76,19 +74,19 @@ source_back (of_bytes bytes) h = ap (option_map of_bytes) (hex_back bytes h.0 h.
 -- no other word begins so
 takes_alone : (source : PacketSource)
     → called_words (source_text source) ≡ option_or (option_map takes (source_words (source_text source))) None
-unfolding after_prefix source_text called_words drop_words drop_word say_words
+unfolding after_prefix source_text called_words drop_words drop_word say_words part_words drop_long_words
 takes_alone (of_position p) = refl
 takes_alone (of_number nth) = refl
 takes_alone (of_flip p bit) = refl
 takes_alone (of_bytes bytes) = refl
 
 pub called_back : (call : SideCall) → IsSayableCall call → called_words (call_text call) ≡ Some call
-unfolding after_prefix call_text drop_word drop_words called_words say_words take_words flip_words bytes_words
-called_back (says content) h = ap (λ (said : Content). Some (says said)) (sym h)
+unfolding after_prefix call_text drop_word drop_words called_words say_words part_words drop_long_words take_words flip_words bytes_words
+called_back (says content) h = content_back content h
 called_back (takes source) h = takes_alone source ∙ ap (λ o. option_or (option_map takes o) None) (source_back source h)
 called_back (drops Packets amount) h = ap (λ o. option_or (option_map (drops Packets) o) None) (amount_back amount h)
-called_back (drops Texts amount) h = ap (option_map (drops Texts)) (amount_back amount h)
-called_back (drops_long id) h = absurd h
+called_back (drops Texts amount) h = ap (λ o. option_or (option_map (drops Texts) o) None) (amount_back amount h)
+called_back (drops_long id) h = ap (option_map drops_long) (number_back id h)
 
 -- ---- lines
 
@@ -128,15 +126,15 @@ call_side_back side call h =
     ap (λ o. option_or (option_map (does side) o) (look_words side (call_text call))) (called_back call h)
 
 inbox_back : (side : Side) → side_words side (codes "inbox") ≡ Some (shows_inbox side)
-unfolding after_prefix side_words called_words drop_words drop_word say_words take_words flip_words bytes_words look_words
+unfolding after_prefix side_words called_words drop_words drop_word say_words part_words drop_long_words take_words flip_words bytes_words look_words
 inbox_back side = refl
 
 awaiting_back : (side : Side) → side_words side (codes "awaiting") ≡ Some (shows_awaiting side)
-unfolding after_prefix side_words called_words drop_words drop_word say_words take_words flip_words bytes_words look_words
+unfolding after_prefix side_words called_words drop_words drop_word say_words part_words drop_long_words take_words flip_words bytes_words look_words
 awaiting_back side = refl
 
 state_back : (side : Side) → side_words side (codes "state") ≡ Some (shows_state side)
-unfolding after_prefix side_words called_words drop_words drop_word say_words take_words flip_words bytes_words look_words
+unfolding after_prefix side_words called_words drop_words drop_word say_words part_words drop_long_words take_words flip_words bytes_words look_words
 state_back side = refl
 
 pub event_back : (event : Event) → IsSayableEvent event → plain_read (event_text event) ≡ Some event

@@ -103,6 +103,10 @@ halves_back ds rest mark h =
     ap (option_map (λ at. (take at text, drop (at + 1) text))) (position_from-zero (λ byte. byte == mark) text ∙ mark_after ds rest mark 0 h ∙ ap Some (none_before (length ds)))
     ∙ ap₂ (λ (a b : List ℕ). Some (a, b)) (take-append_seam ds (mark ∷ rest)) (drop_after ds rest mark)
 
+-- a space is one byte
+pub spaced : (text bit : List ℕ) → text ++ codes " " ++ bit ≡ text ++ 32 ∷ bit
+spaced text bit = append_assoc text (codes " ") bit
+
 pub digits_of : (n : ℕ) → n < 2 ^ 32 → AllDigits 10 (decimal n)
 digits_of n h = (decimal_is_IsNumeral n (omega arith)).0.1
 

@@ -11,11 +11,12 @@ use Rattle.dr_disk.specs.declared.call.Mode.{Mode}
 use Rattle.dr_disk.specs.declared.call.Mode.TheVariants.{Fill, New, Old}
 use Rattle.dr_model.specs.Machines.Events.{SideCall}
 use Rattle.answer_lines.specs.Answers.{drop_word}
-use Rattle.scripts.specs.Deeds.{stops, syncs}
+use Rattle.scripts.specs.Deeds.{joins, stops, syncs}
+use Rattle.scripts.specs.Longs.{drop_long_words, join_words, part_words}
 use Rattle.scripts.specs.Printed.{IsMode, IsSayable, line_text, mode_text, call_text, stop_text}
 use Rattle.scripts.specs.Words.{after_prefix, bytes_words, call_words, called_words, crash_read, deed_words, drop_words, fail_words, flip_words, halves_of, if_stops, is_text, line_read, look_words, may_stop, mode_read, open_words, say_words, side_words, stop_read, stop_words, sync_words, take_words}
-use Rattle.scripts.proofs.PrintedLines.{called_back, deed_back, spaced}
-use Rattle.scripts.proofs.PrintedParts.{Without, digits_of, digits_without, halves_back, number_back}
+use Rattle.scripts.proofs.PrintedLines.{called_back, deed_back}
+use Rattle.scripts.proofs.PrintedParts.{Without, digits_of, digits_without, halves_back, number_back, spaced}
 
 -- ---- how a disk crashes
 
@@ -109,7 +110,7 @@ stop_back side n mode one words small h call = counted_back side n mode one word
 
 -- no event begins so
 no_event : (side : Side) (n : ℕ) (mode : Mode) (words : List ℕ) → side_words side (stop_text n mode words) ≡ None
-unfolding stop_text after_prefix side_words called_words drop_words drop_word say_words take_words flip_words bytes_words look_words
+unfolding stop_text after_prefix side_words called_words drop_words drop_word say_words part_words drop_long_words take_words flip_words bytes_words look_words
 no_event side n mode words = refl
 
 pub stop_line_back : (n : ℕ) (mode : Mode) (side : Side) (call : SideCall) → IsSayable (stops n mode side call)
@@ -119,5 +120,6 @@ stop_line_back n mode side call h =
     let words = stop_text n mode (call_text call) in
     let said = call_back call (call_text call) h.2 (called_back call h.3) in
     deed_back side words (no_event side n mode (call_text call))
-    ∙ ap (λ o. option_or o (option_or (fail_words side words) (option_or (open_words side words) (option_map (syncs side) (sync_words words)))))
+    ∙ ap (λ o. option_or o (option_or (fail_words side words) (option_or (open_words side words)
+    (option_or (option_map (syncs side) (sync_words words)) (option_map (joins side) (join_words words))))))
     (stop_back side n mode call (call_text call) h.0 h.1 said)

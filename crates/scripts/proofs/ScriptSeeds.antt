@@ -7,8 +7,9 @@ use Rattle.dr_base.specs.declared.position.Side.{Side}
 use Rattle.dr_disk.specs.declared.call.Mode.{Mode}
 use Rattle.dr_model.specs.Machines.Events.{Event, SideCall}
 use Rattle.dr_model.specs.Theorems.Fairness.{IsSeedWhole}
-use Rattle.scripts.specs.Deeds.{Deed, acts, fails, reopens, stops, syncs}
+use Rattle.scripts.specs.Deeds.{Deed, acts, fails, joins, reopens, stops, syncs}
 use Rattle.scripts.specs.Heads.{Headed, head_read}
+use Rattle.scripts.specs.Longs.{join_words}
 use Rattle.scripts.specs.Script.{deeds_of, kem_read, key_read, keyed, after_kem, lines_of, or_bad, script_of, script_of_lines, scripted, Scripted, with_deed}
 use Rattle.scripts.specs.Deeds.{HasWholeSeed}
 use Rattle.scripts.specs.Number.{script_number_read}
@@ -76,6 +77,10 @@ whole_syncs : (side : Side) (o : Option (Option ℕ)) → IfSome (option_map (sy
 whole_syncs side None = tt
 whole_syncs side (Some lost) = tt
 
+whole_joins : (side : Side) (o : Option ℕ) → IfSome (option_map (joins side) o) HasWholeSeed
+whole_joins side None = tt
+whole_joins side (Some id) = tt
+
 whole_or : (a b : Option Deed) → IfSome a HasWholeSeed → IfSome b HasWholeSeed
     → IfSome (option_or a b) HasWholeSeed
 whole_or None b h i = i
@@ -85,11 +90,13 @@ whole_deed_words : (side : Side) (words : List ℕ) → IfSome (deed_words side 
 unfolding deed_words
 whole_deed_words side words =
     let sync = option_map (syncs side) (sync_words words) in
-    let open_or = option_or (open_words side words) sync in
+    let join = option_map (joins side) (join_words words) in
+    let open_or = option_or (open_words side words) (option_or sync join) in
     let fail_or = option_or (fail_words side words) open_or in
     whole_or (stop_words side words) fail_or (whole_stop side words)
     (whole_or (fail_words side words) open_or (whole_fail side words)
-    (whole_or (open_words side words) sync (whole_open side words) (whole_syncs side (sync_words words))))
+    (whole_or (open_words side words) (option_or sync join) (whole_open side words)
+    (whole_or sync join (whole_syncs side (sync_words words)) (whole_joins side (join_words words)))))
 
 whole_line : (line : List ℕ) → IfSome (line_read line) HasWholeSeed
 unfolding line_read

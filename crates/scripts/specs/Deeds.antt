@@ -1,5 +1,5 @@
 -- What a line of a script says: an event of both sides, a call in which a disk stops or fails once, a client that opens again,
--- or a sync of a side with the relay.
+-- a sync of a side with the relay, or a look at a long text.
 use Rattle.std.specs.Prelude.{ℕ, Option, ⊤}
 use Rattle.dr_base.specs.declared.position.Side.{Side}
 use Rattle.dr_disk.specs.declared.call.Mode.{Mode}
@@ -16,6 +16,8 @@ pub data Deed : Type 0 where
   reopens : Side → Deed
   -- a side syncs with the relay; the reply to the request of this number, from 1, is lost, and the link fails there
   syncs : Side → Option ℕ → Deed
+  -- a side shows the long text of an id, whose parts stand in its inbox
+  joins : Side → ℕ → Deed
 
 -- a seed that is given has 32 bytes
 abbrev pub HasWholeSeed : Deed → Type 0

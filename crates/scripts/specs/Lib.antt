@@ -11,3 +11,4 @@ pub mod Seen
 pub mod Sides
 pub mod Words
 pub mod Limits
+pub mod Longs

@@ -10,7 +10,7 @@ use Rattle.dr_disk.specs.declared.call.Mode.TheVariants.{Fill, New, Old}
 use Rattle.dr_model.specs.Conversations.Formats.{Formats}
 use Rattle.dr_model.specs.Machines.EventCodes.{call_code, event_code, side_code}
 use Rattle.dr_model.specs.Machines.Events.{Event, SideCall}
-use Rattle.scripts.specs.Deeds.{Deed, acts, fails, reopens, stops, syncs}
+use Rattle.scripts.specs.Deeds.{Deed, acts, fails, joins, reopens, stops, syncs}
 use Rattle.scripts.specs.Script.{Scripted}
 use Rattle.scripts.specs.declared.script.KemName.{KemName}
 use Rattle.scripts.specs.declared.script.KemName.TheVariants.{Open, Sntrup761}
@@ -39,21 +39,23 @@ mode_code = code_by (Bool ⊎ ℕ) (coded⊎ coded_bool coded_ℕ) stored_mode m
 abbrev StoredDeed : Type 0
 StoredDeed =
     Event ⊎ ((ℕ × (Mode × (Side × SideCall)))
-    ⊎ ((ℕ × (Side × SideCall)) ⊎ (Side ⊎ (Side × Option ℕ))))
+    ⊎ ((ℕ × (Side × SideCall)) ⊎ (Side ⊎ ((Side × Option ℕ) ⊎ (Side × ℕ)))))
 
 abbrev stored : Deed → StoredDeed
 stored (acts event) = inl event
 stored (stops n mode side call) = inr (inl (n, (mode, (side, call))))
 stored (fails n side call) = inr (inr (inl (n, (side, call))))
 stored (reopens side) = inr (inr (inr (inl side)))
-stored (syncs side lost) = inr (inr (inr (inr (side, lost))))
+stored (syncs side lost) = inr (inr (inr (inr (inl (side, lost)))))
+stored (joins side id) = inr (inr (inr (inr (inr (side, id)))))
 
 abbrev deed_by : StoredDeed → Deed
 deed_by (inl event) = acts event
 deed_by (inr (inl stop)) = stops stop.0 stop.1.0 stop.1.1.0 stop.1.1.1
 deed_by (inr (inr (inl failure))) = fails failure.0 failure.1.0 failure.1.1
 deed_by (inr (inr (inr (inl side)))) = reopens side
-deed_by (inr (inr (inr (inr sync)))) = syncs sync.0 sync.1
+deed_by (inr (inr (inr (inr (inl sync))))) = syncs sync.0 sync.1
+deed_by (inr (inr (inr (inr (inr look))))) = joins look.0 look.1
 
 pub same_deed : (deed : Deed) → deed_by (stored deed) ≡ deed
 same_deed (acts event) = refl
@@ -61,6 +63,7 @@ same_deed (stops n mode side call) = refl
 same_deed (fails n side call) = refl
 same_deed (reopens side) = refl
 same_deed (syncs side lost) = refl
+same_deed (joins side id) = refl
 
 abbrev pub deed_code : Coded Deed
 deed_code =
@@ -68,7 +71,8 @@ deed_code =
     (coded⊎ event_code
     (coded⊎ (coded× coded_ℕ (coded× mode_code (coded× side_code call_code)))
     (coded⊎ (coded× coded_ℕ (coded× side_code call_code))
-    (coded⊎ side_code (coded× side_code (coded_option coded_ℕ))))))
+    (coded⊎ side_code
+    (coded⊎ (coded× side_code (coded_option coded_ℕ)) (coded× side_code coded_ℕ))))))
     stored deed_by same_deed
 
 -- ---- a script

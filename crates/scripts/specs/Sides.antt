@@ -3,7 +3,7 @@ use Rattle.std.specs.Prelude.{ℕ, List, codes}
 use Rattle.dr_base.specs.declared.position.Side.{Side}
 use Rattle.dr_base.specs.declared.position.Side.TheVariants.{First, Second}
 use Rattle.dr_model.specs.Machines.Events.{Event, cuts, does, seeds, shows_awaiting, shows_inbox, shows_state}
-use Rattle.scripts.specs.Deeds.{Deed, acts, fails, reopens, stops, syncs}
+use Rattle.scripts.specs.Deeds.{Deed, acts, fails, joins, reopens, stops, syncs}
 
 -- a side
 unfoldable pub side_text : Side → List ℕ
@@ -26,3 +26,4 @@ deed_side (stops n mode side call) = side
 deed_side (fails n side call) = side
 deed_side (reopens side) = side
 deed_side (syncs side lost) = side
+deed_side (joins side id) = side

@@ -1,10 +1,11 @@
 -- What a line of a script says.
-use Rattle.std.specs.Prelude.{ℕ, ◌/◌, Bool, true, false, nat_le, List, [], length, nat_eq, slice_index, Option, Some, None, option_map, codes, if◌then◌else◌}
+use Rattle.std.specs.Prelude.{ℕ, ◌/◌, ◌==◌, Bool, true, false, nat_le, List, [], length, nat_eq, slice_index, Option, Some, None, option_map, codes, if◌then◌else◌}
 use Rattle.std.specs.Cmp.Lexicographic.{pointwise}
 use Rattle.std.specs.Option.{option_and_then, option_or}
 use Rattle.std.specs.Result.{result_ok}
 use Rattle.hex.specs.Hex.{decode_sized}
 unfoldable pub use Rattle.script_parts.specs.Parts.{after_prefix, halves_of}
+use Rattle.boxes.specs.declared.kinds.TheConstants.{TEXT_KIND}
 use Rattle.dr_disk.specs.declared.call.Mode.{Mode}
 use Rattle.dr_disk.specs.declared.call.Mode.TheVariants.{Fill, New, Old}
 use Rattle.dr_base.specs.declared.position.Position.{Position}
@@ -17,7 +18,8 @@ use Rattle.session_model.specs.declared.answer.Items.{Items}
 use Rattle.session_model.specs.declared.answer.Items.TheVariants.{Packets, Texts}
 use Rattle.dr_model.specs.Machines.Events.{Event, PacketSource, SideCall, does, drops, drops_long, of_bytes, of_flip, of_number, of_position, says, seeds, shows_awaiting, shows_inbox, shows_state, takes}
 use Rattle.answer_lines.specs.Answers.{drop_word}
-use Rattle.scripts.specs.Deeds.{Deed, acts, fails, reopens, stops, syncs}
+use Rattle.scripts.specs.Deeds.{Deed, acts, fails, joins, reopens, stops, syncs}
+use Rattle.scripts.specs.Longs.{drop_long_words, join_words, part_words}
 use Rattle.scripts.specs.Number.{script_number_read}
 use Rattle.scripts.specs.declared.hexed.TheConstants.{DIGIT_LIMIT}
 
@@ -91,11 +93,13 @@ unfoldable pub drop_words : Items → List ℕ → Option SideCall
 drop_words items words =
     option_map (drops items) (option_and_then amount_words (after_prefix (drop_word items) words))
 
--- what a side is called to do: a text, a packet, or `sent` or `done` and an amount
+-- what a side is called to do: a text, a part of a long one, a packet, `sent` or `done` and an
+-- amount, or the parts of a long text leave
 unfoldable pub called_words : List ℕ → Option SideCall
 called_words words =
-    option_or (say_words words) (option_or (option_map takes (source_words words))
-    (option_or (drop_words Packets words) (drop_words Texts words)))
+    option_or (say_words words) (option_or (part_words words)
+    (option_or (option_map takes (source_words words)) (option_or (drop_words Packets words)
+    (option_or (drop_words Texts words) (drop_long_words words)))))
 
 -- `inbox`, `awaiting` or `state`
 unfoldable pub look_words : Side → List ℕ → Option Event
@@ -135,8 +139,8 @@ mode_read text =
     else (if is_text (codes "new") text then Some New
     else option_map (λ bytes. Fill (slice_index bytes 0)) (result_ok (decode_sized text 1)))
 
--- whether a disk may stop or fail in a call: in a text, a packet as the network holds it, or a
--- number of items
+-- whether a disk may stop or fail in a call: in a text, but in no part of a long one, in a packet
+-- as the network holds it, or in a number of items
 abbrev pub is_network : PacketSource → Bool
 is_network (of_position p) = true
 is_network (of_number nth) = true
@@ -147,7 +151,7 @@ is_exact All = false
 is_exact (Exactly n) = true
 
 abbrev pub may_stop : SideCall → Bool
-may_stop (says content) = true
+may_stop (says content) = content.kind == TEXT_KIND
 may_stop (takes source) = is_network source
 may_stop (drops items amount) = is_exact amount
 may_stop (drops_long id) = false
@@ -205,11 +209,12 @@ sync_words words = if is_text (codes "sync") words then Some None else option_ma
 -- ---- any line
 
 -- what stands after a side and isn't an event alone: its disk stops or fails, its client opens again,
--- or it syncs
+-- it syncs, or it shows a long text
 unfoldable pub deed_words : Side → List ℕ → Option Deed
 deed_words side words =
     option_or (stop_words side words) (option_or (fail_words side words)
-    (option_or (open_words side words) (option_map (syncs side) (sync_words words))))
+    (option_or (open_words side words) (option_or (option_map (syncs side) (sync_words words))
+    (option_map (joins side) (join_words words)))))
 
 -- what a line says; every other line is bad
 unfoldable pub line_read : List ℕ → Option Deed

@@ -2,22 +2,25 @@
 
 ghost use Rattle.std.specs.Prelude.{◌≤◌};
 
+use crate::said::Said;
 use dr_base::{Position, Side};
 use session_model::{Amount, Items};
 
-/// A call on a side's client, by what stands for a text, a packet and a number of items.
+/// A call on a side's client, by what stands for what it says, a packet and a number of items.
 #[derive(Clone, Copy, Drop)]
 pub enum Call<T, P, N> {
-    /// It says this text.
+    /// It says this.
     Say(T),
     /// It takes this packet.
     Take(P),
     /// This many of the oldest items leave their box.
     Drop(Items, N),
+    /// The parts of the long text of this id leave its inbox.
+    DropLong(u32),
 }
 
 /// A call as a line says it.
-pub type LineCall<'a> = Call<&'a [u8], Source<'a>, Amount>;
+pub type LineCall<'a> = Call<Said<'a>, Source<'a>, Amount>;
 
 /// What a packet is that a side takes.
 #[derive(Clone, Copy)]
@@ -48,7 +51,7 @@ impl Source<'_> {
     }
 }
 
-impl Call<&[u8], Source<'_>, Amount> {
+impl Call<Said<'_>, Source<'_>, Amount> {
     ghost use Rattle.std.specs.Prelude.{◌≡◌};
     ghost use Rattle.scripts.specs.Seen.{call_seen};
     ghost use Rattle.scripts.specs.Words.{may_stop};
@@ -58,9 +61,10 @@ impl Call<&[u8], Source<'_>, Amount> {
         ensures { result ≡ may_stop (call_seen self.entry) }
     {
         match self {
-            Call::Say(_) => true,
+            Call::Say(said) => matches!(&said, Said::Text(_)),
             Call::Take(source) => source.is_network(),
             Call::Drop(_, amount) => matches!(&amount, Amount::Exactly(_)),
+            Call::DropLong(_) => false,
         }
     }
 }

@@ -28,7 +28,7 @@ fn parse_call(words: &[u8]) -> Option<LineCall<'_>>
 
 /// Reads `old`, `new`, or a byte in two hex digits of either case.
 #[tactic(auto, unfolding(crate::specs::Words::mode_read))]
-fn parse_mode(text: &[u8]) -> Option<Mode>
+pub fn parse_mode(text: &[u8]) -> Option<Mode>
     ensures { result ≡ mode_read text.now }
 {
     if text == b"old".as_slice() {

@@ -2,11 +2,13 @@
 #![tactic(auto)]
 
 pub use call::{Call, Failure, LineCall, Source};
+pub use called::parse_mode;
 pub use hexed::{HEX_LIMIT, hex_bytes, limits_in_numbers};
 pub use laws::lines_print_back;
 pub use line::Line;
 pub use lined::{Lined, Stop};
 pub use lines::Lines;
+pub use said::{Said, SaidPart};
 pub use script::{KemName, Script, ScriptError};
 pub use sides::{side_name, side_prefix};
 
@@ -18,8 +20,10 @@ mod laws;
 mod line;
 mod lined;
 mod lines;
+mod longs;
 mod make;
 mod number;
+mod said;
 mod script;
 mod sides;
 mod syncing;

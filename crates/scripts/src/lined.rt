@@ -1,5 +1,5 @@
 //! Lines of a script, which may stop the disk of their side or let it fail once, open its client
-//! again, or sync it.
+//! again, sync it, or show a long text of its inbox.
 
 ghost use Rattle.std.specs.Prelude.{◌≡◌, option_map};
 ghost use Rattle.scripts.specs.Lined.{lined_deed};
@@ -9,6 +9,7 @@ ghost use Rattle.scripts.specs.Words.{deed_words, line_read};
 use crate::call::{Failure, LineCall};
 use crate::called::{parse_fail, parse_stop};
 use crate::line::Line;
+use crate::longs::parse_join;
 use crate::sides::named_side;
 use crate::syncing::parse_sync;
 use dr_base::Side;
@@ -28,6 +29,8 @@ pub enum Lined<'a> {
     /// The side syncs with the relay. The reply to the request of this number, from 1, is lost, and
     /// the link fails there.
     Syncing(Side, Option<u32>),
+    /// The side shows the long text of this id, whose parts stand in its inbox.
+    Joining(Side, u32),
 }
 
 /// A call in which the disk of its side stops.
@@ -66,6 +69,7 @@ impl<'a> Lined<'a> {
             Lined::Failing(failure) => failure.side,
             Lined::Opening(side) => *side,
             Lined::Syncing(side, _) => *side,
+            Lined::Joining(side, _) => *side,
         }
     }
 }
@@ -84,8 +88,11 @@ fn parse_deed(side: Side, words: &[u8]) -> Option<Lined<'_>>
     if words == b"open".as_slice() {
         return Some(Lined::Opening(side));
     }
-    match parse_sync(words) {
-        Some(lost) => Some(Lined::Syncing(side, lost)),
+    if let Some(lost) = parse_sync(words) {
+        return Some(Lined::Syncing(side, lost));
+    }
+    match parse_join(words) {
+        Some(id) => Some(Lined::Joining(side, id)),
         None => None,
     }
 }

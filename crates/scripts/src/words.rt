@@ -7,7 +7,9 @@ ghost use Rattle.scripts.specs.Seen.{bytes_of_hex, call_seen, event_of, source_o
 use crate::call::{Call, LineCall, Source};
 use crate::hexed::{DIGIT_LIMIT, HEX_LIMIT};
 use crate::line::Line;
+use crate::longs::{parse_drop_long, parse_part};
 use crate::number::number;
+use crate::said::Said;
 use answer_lines::drop_word;
 use dr_base::{Position, Side};
 use hex::decode_to_slice;
@@ -31,7 +33,7 @@ fn parse_say(words: &[u8]) -> Option<LineCall<'_>>
     ensures { option_map call_seen result ≡ say_words words.entry.now }
 {
     let text = text_after(words, b"say")?;
-    Some(Call::Say(text))
+    Some(Call::Say(Said::Text(text)))
 }
 
 /// Reads `take` and a packet.
@@ -129,13 +131,19 @@ pub fn parse_called(words: &[u8]) -> Option<LineCall<'_>>
     if let Some(found) = parse_say(words) {
         return Some(found);
     }
+    if let Some(found) = parse_part(words) {
+        return Some(found);
+    }
     if let Some(source) = parse_source(words) {
         return Some(Call::Take(source));
     }
     if let Some(found) = parse_drop(Items::Packets, words) {
         return Some(found);
     }
-    parse_drop(Items::Texts, words)
+    if let Some(found) = parse_drop(Items::Texts, words) {
+        return Some(found);
+    }
+    parse_drop_long(words)
 }
 
 /// Reads `inbox`, `awaiting` or `state`.

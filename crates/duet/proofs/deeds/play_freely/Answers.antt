@@ -39,3 +39,6 @@ returns-in-Syncing g c =
     goes_along _ _ _ _ _ _ _ _ _ c.in-Syncing.is
     (goes_written _ _ _ _ _ _ _ _ c.sync-written.result _ c.unless_failed-in-Syncing.ensures
     (λ v is. of_ok c.sync-written.result v is e.next) refl e.writes)
+
+pub returns-in-Joining : goal.returns-in-Joining
+returns-in-Joining g c = goes_along _ _ _ _ _ _ _ _ _ c.in-Joining.is (c.play_joining.ensures c.args.tally.now)
