@@ -1,6 +1,6 @@
 -- How a table of commands is looked through, and the commands behind `book-`.
-use Rattle.std.proofs.Common.{◌≡◌, ◌≢◌, ◌∙◌, ◌<◌, ◌≤◌, ◌-◌, ℕ, suc, ◌+◌, ◌&&◌, Bool, true, false, cond, refl, sym, ap, ap₂, arith, List, [], ◌∷◌, ◌++◌, drop, get_or, length, map, take, take_all, Option, Some, None, codes}
-use Rattle.std.specs.Prelude.{⊤, find, is_some, nat_le}
+use Rattle.std.proofs.Common.{◌≡◌, ◌≢◌, ◌∙◌, ◌≤◌, ◌-◌, ℕ, suc, ◌+◌, ◌&&◌, Bool, true, false, cond, refl, sym, ap, arith, List, [], ◌∷◌, ◌++◌, drop, get_or, length, map, take, take_all, Option, Some, None, codes}
+use Rattle.std.specs.Prelude.{⊤, is_some, nat_le}
 use Rattle.std.specs.List.{list_all}
 use Rattle.std.proofs.lemmas.Bool.Decides.{nat_tests}
 use Rattle.std.specs.Option.{option_and_then, option_map, option_or}
@@ -12,7 +12,7 @@ use Rattle.clap.specs.Walk.{Text, texts}
 use Rattle.command_words.specs.declared.command.Ask.{Ask}
 use Rattle.command_words.specs.declared.command.Where.{Where}
 use Rattle.command_words.specs.declared.command.Where.TheVariants.{Book, Folder}
-use Rattle.command_words.specs.Commands.{Row, Shape, Work, asked, asks, book_rows, command_named, fits, folder_rows, in_book, list_row, named_rows, row_of, rows, session_rows, work_with}
+use Rattle.command_words.specs.Commands.{Row, Shape, asked, asks, book_rows, command_named, fits, folder_rows, in_book, list_row, named_rows, row_of, rows, session_rows, work_with}
 
 -- a row that takes at most two values, so none asks for anything with more
 abbrev is_short : Row → Bool
@@ -163,5 +163,5 @@ module _ (name : List ℕ) (apart : (rest : List ℕ) → name ≢ codes "book-"
   here_is ask values is =
       ap (option_map (work_with Folder values)) is
       ∙ work_at Folder (session_rows ++ folder_rows) name values
-      (refl, (refl, (refl, (refl, (refl, (refl, (refl, (refl, (refl, (refl, (refl, (refl, (refl, (refl, (refl, (refl, (refl, tt)))))))))))))))))
+      (refl, (refl, (refl, (refl, (refl, (refl, (refl, (refl, (refl, (refl, (refl, (refl, (refl, (refl, (refl, (refl, (refl, (refl, (refl, tt)))))))))))))))))))
       ∙ apart_is (session_rows ++ folder_rows) book_rows values none_of_book

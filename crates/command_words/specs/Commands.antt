@@ -8,7 +8,7 @@ use Rattle.dr_base.specs.declared.limits.TheConstants.{INBOX_LIMIT, OUTBOX_LIMIT
 use Rattle.dr_base.specs.declared.position.Side.{Side}
 use Rattle.dr_base.specs.declared.position.Side.TheVariants.{First, Second}
 use Rattle.command_words.specs.declared.command.Ask.{Ask}
-use Rattle.command_words.specs.declared.command.Ask.TheVariants.{Awaiting, Begin, Check, Done, DoneLong, Duet, DuetMake, Forget, Inbox, List as Names, Long, Outbox, Relay, RelayKeys, Say, Sent, State, Sync, Take}
+use Rattle.command_words.specs.declared.command.Ask.TheVariants.{Awaiting, Begin, Check, Done, DoneLong, Duet, DuetMake, Fan, Forget, Inbox, List as Names, Long, Outbox, Relay, RelayKeys, Say, SayLong, Sent, State, Sync, Take}
 use Rattle.command_words.specs.declared.command.Where.{Where}
 use Rattle.command_words.specs.declared.command.Where.TheVariants.{Book, Folder}
 use Rattle.command_words.specs.declared.limits.TheConstants.{CONNECTION_LIMIT, ID_LIMIT, PORT_LIMIT, ROUND_LIMIT}
@@ -60,6 +60,11 @@ relay_read port count =
 -- the id of a long text
 abbrev pub id_read : List ℕ → Option ℕ
 id_read word = amount_read ID_LIMIT word
+
+-- the id of a long text, and the part from which on it is said
+unfoldable pub say_long_read : List ℕ → List ℕ → Option Ask
+say_long_read id from =
+    option_and_then (λ i. option_map (SayLong i) (number_read from)) (id_read id)
 
 -- a number of rounds, and the number that the script is made from
 unfoldable pub made_read : List ℕ → List ℕ → Option Ask
@@ -134,11 +139,13 @@ folder_rows =
     ∷ row (codes "relay-keys") (exactly 0) (λ vs. Some RelayKeys)
     ∷ row (codes "long") (exactly 1) (λ vs. option_map Long (id_read (value vs 0)))
     ∷ row (codes "done-long") (exactly 1) (λ vs. option_map DoneLong (id_read (value vs 0)))
+    ∷ row (codes "say-long") (exactly 2) (λ vs. say_long_read (value vs 0) (value vs 1))
     ∷ row (codes "check") (exactly 0) (λ vs. Some Check)
     ∷ row (codes "sync") (exactly 1) (λ vs. Some Sync)
     ∷ row (codes "relay") (with_more 3) (λ vs. relay_read (value vs 0) (value vs 1))
     ∷ row (codes "duet") (exactly 0) (λ vs. Some Duet)
     ∷ row (codes "duet-make") (exactly 2) (λ vs. made_read (value vs 0) (value vs 1))
+    ∷ row (codes "fan") (with_more 2) (λ vs. Some Fan)
     ∷ []
 
 -- what a session of a book is asked for, behind `book-` and its name

@@ -10,7 +10,7 @@ use clap::{Arg, ArgAction, Command};
 use std::alloc::{AllocError, Global};
 
 /// The names of the commands, in the order of their rows.
-fn names() -> [&'static str; 27]
+fn names() -> [&'static str; 29]
     ensures { texts result ≡ map (λ (row : Row). row.name) rows }
 {
     [
@@ -26,11 +26,13 @@ fn names() -> [&'static str; 27]
         "relay-keys",
         "long",
         "done-long",
+        "say-long",
         "check",
         "sync",
         "relay",
         "duet",
         "duet-make",
+        "fan",
         "book-list",
         "book-forget",
         "book-begin",

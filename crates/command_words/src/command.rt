@@ -51,6 +51,8 @@ pub enum Ask {
     Long(u32),
     /// All parts of the long text of this id leave the inbox.
     DoneLong(u32),
+    /// The side says the long text that is read, under this id, from this part of it on.
+    SayLong { id: u32, from: u64 },
     /// The session leaves the book.
     Forget,
     /// The book shows the names of its sessions.
@@ -59,6 +61,9 @@ pub enum Ask {
     Duet,
     /// A script of this many rounds, made from a number, plays both sides.
     DuetMake { rounds: u32, number: u64 },
+    /// The sessions of the book whose names are the values from the second on say the text that is
+    /// the first value.
+    Fan,
 }
 
 /// A command, with the values that stand after its name.
@@ -77,6 +82,16 @@ impl<'a> Command<'a> {
         match self.values.as_slice().get(at) {
             Some(value) => value,
             None => "",
+        }
+    }
+
+    /// The values from the second on.
+    pub fn values_after(&self) -> &[&'a str]
+        ensures { texts result.now ≡ drop 1 (texts self.now.values.items) }
+    {
+        match self.values.as_slice() {
+            [_, after @ ..] => after,
+            _ => &[],
         }
     }
 

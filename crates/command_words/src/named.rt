@@ -4,7 +4,7 @@ ghost use Rattle.std.specs.Prelude.{◌≡◌, ◌++◌, ℕ, List, [], ◌∷�
 ghost use Rattle.clap.specs.Walk.{texts};
 ghost use Rattle.dr_base.specs.declared.limits.TheConstants.{INBOX_LIMIT, OUTBOX_LIMIT};
 ghost use Rattle.command_words.specs.declared.limits.TheConstants.{CONNECTION_LIMIT, ID_LIMIT, PORT_LIMIT, ROUND_LIMIT};
-ghost use Rattle.command_words.specs.Commands.{asked, begin_read, book_rows, command_named, folder_rows, made_read, named_rows, relay_read, row_of, rows, session_rows, work_with};
+ghost use Rattle.command_words.specs.Commands.{asked, begin_read, book_rows, command_named, folder_rows, made_read, named_rows, relay_read, row_of, rows, say_long_read, session_rows, work_with};
 ghost use Rattle.command_words.specs.Seen.{work_of};
 
 use crate::command::{Ask, Command, Where};
@@ -40,6 +40,16 @@ fn made_of(rounds: &str, number: &str) -> Option<Ask>
     let rounds = count_of(ROUND_LIMIT, rounds)?;
     let number = number_of(number)?;
     Some(Ask::DuetMake { rounds, number })
+}
+
+/// The long text to say that two words say, and the part from which on.
+#[tactic(auto, unfolding(crate::specs::Commands::say_long_read))]
+fn say_long_of(id: &str, from: &str) -> Option<Ask>
+    ensures { result ≡ say_long_read id.now from.now }
+{
+    let id = amount_of(ID_LIMIT, id)?;
+    let from = number_of(from)?;
+    Some(Ask::SayLong { id, from })
 }
 
 /// Whether a session of a book has the command of this name too.
@@ -130,7 +140,9 @@ fn alone_with_two(name: &str, first: &str, second: &str) -> Option<Ask>
     ensures { result ≡ asked folder_rows name.now (first.now ∷ second.now ∷ []) }
 {
     match name {
+        "say-long" => say_long_of(first, second),
         "duet-make" => made_of(first, second),
+        "fan" => Some(Ask::Fan),
         _ => None,
     }
 }
@@ -142,6 +154,7 @@ fn alone_with_more(name: &str, first: &str, second: &str) -> Option<Ask>
 {
     match name {
         "relay" => relay_of(first, second),
+        "fan" => Some(Ask::Fan),
         _ => None,
     }
 }

@@ -10,7 +10,7 @@ use Rattle.endings.specs.declared.ending.Ending.{Ending}
 use Rattle.endings.specs.declared.ending.Ending.TheVariants.{NoMemory, Usage}
 use Rattle.command_words.specs.Commands.{Work, command_of, value}
 use Rattle.command_words.specs.declared.command.Ask.{Ask}
-use Rattle.command_words.specs.declared.command.Ask.TheVariants.{Begin, Check, Done, DoneLong, Duet, DuetMake, Forget, Long, Relay, RelayKeys, Say, Sent, Sync, Take, Awaiting as ShowsAwaiting, Inbox as ShowsInbox, List as ShowsNames, Outbox as ShowsOutbox, State as ShowsState}
+use Rattle.command_words.specs.declared.command.Ask.TheVariants.{Begin, Check, Done, DoneLong, Duet, DuetMake, Fan, Forget, Long, Relay, RelayKeys, Say, SayLong, Sent, Sync, Take, Awaiting as ShowsAwaiting, Inbox as ShowsInbox, List as ShowsNames, Outbox as ShowsOutbox, State as ShowsState}
 use Rattle.command_words.specs.declared.command.Where.{Where}
 use Rattle.command_words.specs.declared.command.Where.TheVariants.{Book, Folder}
 use Rattle.command_lines.specs.Acting.{ClientAsk}
@@ -23,11 +23,13 @@ use Rattle.session_model.specs.declared.answer.Items.TheVariants.{Packets, Texts
 use Rattle.session_model.specs.declared.answer.Which.{Which}
 use Rattle.session_model.specs.declared.answer.Which.TheVariants.{OfId, Oldest}
 use Rattle.book_commands.specs.Beginning.{RunsBeginUnder}
+use Rattle.book_commands.specs.Fanning.{RunsFan}
 use Rattle.book_commands.specs.Forgetting.{RunsForget}
 use Rattle.book_commands.specs.Listing.{RunsList}
 use Rattle.session_commands.specs.Beginning.{RunsBegin}
 use Rattle.session_commands.specs.Checking.{RunsCheck}
 use Rattle.session_commands.specs.KeysShown.{RunsKeys}
+use Rattle.session_commands.specs.LongSaying.{RunsSayLong}
 use Rattle.session_commands.specs.LongShown.{RunsLong}
 use Rattle.command_lines.specs.Runs.{RunsTakeAt}
 use Rattle.command_lines.specs.Showing.{RunsShowAt}
@@ -55,6 +57,25 @@ pub record MakesAlone {P : PortTypes} (rounds number : ℕ) (seen : Seen P) (old
     (code : ℕ) : Type 0 where
   pub writes : WritesEnding (PlaysMade rounds number) seen old new code
   pub idle : LeavesAllButSink old new
+
+-- the parts of a long text are said: the book, the relay's disk, the link and the door are left alone
+pub record SaysParts {P : PortTypes} (seen : Seen P) (id from : ℕ) (old new : PortsNow P)
+    (code : ℕ) : Type 0 where
+  pub writes : WritesEnding (RunsSayLong seen.disk seen.draws sntrup761_kem id from
+      (seen.source old.source) (seen.source new.source) old.disk new.disk old.draws new.draws
+      (seen.sink old.sink).faults (seen.sink new.sink).faults) seen old new code
+  pub book : new.book ≡ old.book
+  pub offline : IsOffline old new
+
+-- a text is said in several sessions of the book: the session's disk, the source, the relay's disk,
+-- the link and the door are left alone
+pub record FansAlone {P : PortTypes} (seen : Seen P) (text : List ℕ) (names : List (List ℕ))
+    (old new : PortsNow P) (code : ℕ) : Type 0 where
+  pub writes : WritesEnding (RunsFan seen.book seen.draws sntrup761_kem text names
+      old.book new.book old.draws new.draws) seen old new code
+  pub disk : new.disk ≡ old.disk
+  pub source : new.source ≡ old.source
+  pub offline : IsOffline old new
 
 -- a sync at an address: the relay's disk, the book, the source, the door and the draws are left
 -- alone
@@ -145,6 +166,10 @@ Performs Folder (Long id) values seen old new code =
     (RunsLong seen.disk sntrup761_kem id old.disk new.disk) seen old new code
 Performs Folder (DoneLong id) values seen old new code =
     Drops (OfId id) (home_of seen Folder values) seen old new code
+Performs Folder (SayLong id from) values seen old new code =
+    SaysParts seen id from old new code
+Performs Folder Fan values seen old new code =
+    FansAlone seen (value values 0) (drop 1 values) old new code
 Performs Folder Check values seen old new code =
     WritesAlone (home_of seen Folder values)
     (RunsCheck seen.disk sntrup761_kem old.disk new.disk) seen old new code

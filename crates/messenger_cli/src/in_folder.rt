@@ -9,13 +9,14 @@ ghost use Rattle.messenger_cli.specs.Performing.{Performs};
 use crate::making::play_made;
 use crate::playing::play_script;
 use crate::ports::Ports;
+use book_commands::fan;
 use command_lines::Listing;
 use command_words::{Ask, Command};
 use dr_disk::Disk;
 use dr_ports::{Door, Draws, Link, Sink, Source};
 use endings::{Ending, Status, finish};
 use relay_command::relay;
-use session_commands::{begin, check, drop_items, long, say, show, show_keys, sync, take};
+use session_commands::{begin, check, drop_items, long, say, say_long, show, show_keys, sync, take};
 use session_model::{Items, Which};
 use sntrup761::Sntrup761;
 use std::alloc::Global;
@@ -40,7 +41,7 @@ pub(crate) fn perform_in_folder<
     let Ports {
         disk,
         relay_disk,
-        book: _,
+        book,
         source,
         sink,
         link,
@@ -71,6 +72,13 @@ pub(crate) fn perform_in_folder<
         Ask::RelayKeys => show_keys::<Sntrup761, D, O>(alloc, disk, sink),
         Ask::Long(id) => long::<Sntrup761, D, O>(alloc, id, disk, sink),
         Ask::DoneLong(id) => drop_items::<Sntrup761, D, O>(alloc, Which::OfId(id), disk, sink),
+        Ask::SayLong { id, from } => say_long::<Sntrup761, D, S, O, W>(
+            alloc, id, from, disk, source, sink, draws,
+        ),
+        Ask::Fan => {
+            let text = command.value(0).as_bytes();
+            fan::<Sntrup761, B, O, W>(alloc, text, command.values_after(), book, sink, draws)
+        }
         Ask::State => show::<Sntrup761, D, O>(alloc, Listing::State, disk, sink),
         Ask::Check => check::<Sntrup761, D, O>(alloc, disk, sink),
         Ask::Duet => play_script(alloc, source, sink),
