@@ -9,6 +9,8 @@ use std::{env, io};
 mod cipher;
 mod clock;
 mod formats;
+mod guarded;
+mod long;
 mod mechanism;
 mod message;
 mod network;
@@ -27,7 +29,9 @@ fn measure(rt: &HostRuntime, word: &str) -> io::Result<()> {
         "run" => {
             cipher::report(rt)?;
             message::report(rt)?;
-            relay::report(rt)
+            relay::report(rt)?;
+            guarded::report(rt)?;
+            long::report(rt)
         }
         "ring" => {
             ring::report(rt)?;

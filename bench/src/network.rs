@@ -1,14 +1,16 @@
-//! A packet posted, fetched and acknowledged at a relay on a real file, over loopback, beside the bare writes and syncs of
-//! its box's records.
+//! A packet posted, fetched and acknowledged at a relay on a real file, over loopback, at a box without keys and at one with keys,
+//! beside the bare writes and syncs of its box's records.
 
 ghost use Rattle.relay_server.specs.Durable.{IsServerReady};
 
 use crate::clock::Times;
 use crate::store::time_bare;
+use dr_base::Key32;
 use dr_disk::Disk;
 use file_disk::{FileDisk, Sharing};
 use dr_ports::{Door, Link};
-use relay_core::BoxSpec;
+use relay_core::{BoxKeys, BoxSpec};
+use relay_guard::token_tag;
 use relay_pipe::send_all;
 use relay_server::{HALF_SIZE, Server, UPPER_START};
 use relay_wire::Name;
@@ -32,18 +34,64 @@ const ADDRESS: &str = "127.0.0.1:47614";
 /// The file of the relay, and the size of a disk with the area of one box.
 const RELAY: &str = "bench-relay";
 
+/// The same of a relay whose box has keys.
+const GUARDED: &str = "bench-guarded";
+
 const DISK_SIZE: u64 = UPPER_START + HALF_SIZE;
 
 /// How many bytes the replies have: a number, the packet, that it was dropped, and that a frame has no lawful length.
 const REPLIES: usize = 1053;
 
+/// The length of a token: its kind, a counter and a tag.
+const TOKEN: usize = 41;
+
+/// The owner's key and the poster's.
+fn key() -> Key32 {
+    Key32 { bytes: [5; 32] }
+}
+
+/// The keys of a box that has some.
+fn keys_of(guarded: bool) -> Option<BoxKeys> {
+    if guarded {
+        return Some(BoxKeys {
+            owner: key(),
+            poster: key(),
+        });
+    }
+    None
+}
+
+/// Puts the frame of a request to the box `a` behind those that stand, with a token of this counter where there is one.
+fn put(bytes: &mut Vec<u8>, head: &[u8], rest: &[u8], counter: Option<u64>) -> io::Result<()> {
+    let len = head.len().wrapping_add(rest.len()).wrapping_add(1);
+    match counter {
+        None => bytes.extend_from_slice(&(len as u16).to_be_bytes())?,
+        Some(counter) => {
+            bytes.extend_from_slice(&(len.wrapping_add(TOKEN) as u16).to_be_bytes())?;
+            bytes.push(4)?;
+            bytes.extend_from_slice(&counter.to_be_bytes())?;
+            bytes.extend_from_slice(&token_tag(&key(), counter, head, b"a", rest))?;
+        }
+    }
+    bytes.extend_from_slice(head)?;
+    bytes.extend_from_slice(b"a")?;
+    bytes.extend_from_slice(rest)?;
+    Ok(())
+}
+
 /// The frames that post a packet of 1,024 bytes to the box `a`, fetch it and acknowledge it under its number, and one of no
-/// lawful length, which ends the connection.
-fn requests(alloc: Global, number: u64) -> io::Result<Vec<u8>> {
-    let mut bytes = Vec::from_slice(alloc, b"\x04\x03\x01\x01a")?;
-    bytes.extend_from_slice(&[7; 1024])?;
-    bytes.extend_from_slice(b"\x00\x03\x02\x01a\x00\x0b\x03\x01a")?;
-    bytes.extend_from_slice(&number.to_be_bytes())?;
+/// lawful length, which ends the connection. Each owner's request has a counter of its own.
+fn requests(alloc: Global, number: u64, guarded: bool) -> io::Result<Vec<u8>> {
+    let mut bytes = Vec::new(alloc);
+    let fetch = number.wrapping_mul(2);
+    let counters = if guarded {
+        [Some(number), Some(fetch), Some(fetch.wrapping_add(1))]
+    } else {
+        [None; 3]
+    };
+    put(&mut bytes, b"\x01\x01", &[7; 1024], counters[0])?;
+    put(&mut bytes, b"\x02\x01", b"", counters[1])?;
+    put(&mut bytes, b"\x03\x01", &number.to_be_bytes(), counters[2])?;
     bytes.extend_from_slice(b"\x00\x00")?;
     Ok(bytes)
 }
@@ -97,6 +145,7 @@ fn exchange<R: Clock + AllocGlobal, D: Disk, L: Link, A: Door>(
     link: &mut L,
     door: &mut A,
     number: u64,
+    guarded: bool,
     times: &mut Times,
 ) -> io::Result<()> {
     let Some(name) = Name::new(b"a") else {
@@ -105,38 +154,45 @@ fn exchange<R: Clock + AllocGlobal, D: Disk, L: Link, A: Door>(
     if disk.size() < DISK_SIZE {
         return Err(Error::from(ErrorKind::InvalidInput));
     }
-    let bytes = requests(rt.alloc(), number)?;
-    match Server::open(rt.alloc(), disk, &[BoxSpec { name, keys: None }]) {
+    let bytes = requests(rt.alloc(), number, guarded)?;
+    let keys = keys_of(guarded);
+    match Server::open(rt.alloc(), disk, &[BoxSpec { name, keys }]) {
         Ok(mut server) => serve_once(rt, &mut server, disk, link, door, &bytes, times),
         Err(_) => Err(Error::from(ErrorKind::InvalidData)),
     }
 }
 
-/// The median time of an exchange, in microseconds.
-fn time_exchange<R: Clock + AllocGlobal + Files<File = File> + Net<Stream = TcpStream>>(
+/// The median times of an exchange at a box without keys, and at one with keys, in turn, in microseconds.
+fn time_exchanges<R: Clock + AllocGlobal + Files<File = File> + Net<Stream = TcpStream>>(
     rt: &R,
-) -> io::Result<u64> {
+) -> io::Result<(u64, u64)> {
     let mut disk = FileDisk::new(rt, RELAY, DISK_SIZE, HALF_SIZE, Sharing::Alone);
+    let mut kept = FileDisk::new(rt, GUARDED, DISK_SIZE, HALF_SIZE, Sharing::Alone);
     let mut link = TcpLink::new(rt);
     let mut door = TcpDoor::new(rt);
     if door.listen(PORT).is_err() {
         return Err(Error::from(ErrorKind::AddrInUse));
     }
-    let mut times = Times::new(rt.alloc());
+    let mut bare = Times::new(rt.alloc());
+    let mut guarded = Times::new(rt.alloc());
     for number in 1..=RUNS {
-        exchange(rt, &mut disk, &mut link, &mut door, number, &mut times)?;
+        exchange(rt, &mut disk, &mut link, &mut door, number, false, &mut bare)?;
+        exchange(rt, &mut kept, &mut link, &mut door, number, true, &mut guarded)?;
     }
-    Ok(times.median()? / 1000)
+    Ok((bare.median()? / 1000, guarded.median()? / 1000))
 }
 
-/// Prints a line, and removes the file.
+/// Prints a line, and removes the files.
 pub fn report<R: Clock + Print + AllocGlobal + Files<File = File> + Net<Stream = TcpStream>>(
     rt: &R,
 ) -> io::Result<()> {
-    let each = time_exchange(rt)?;
+    let (each, guarded) = time_exchanges(rt)?;
     fs::remove_file(rt, RELAY)?;
-    let bare = time_bare(rt, 1)?.saturating_mul(2);
+    fs::remove_file(rt, GUARDED)?;
+    let put = time_bare(rt, 1)?;
+    let (bare, three) = (put.saturating_mul(2), put.saturating_mul(3));
     println!(rt;
         "a packet of 1,024 bytes posted, fetched and acknowledged over loopback, on a file: {each} us; its writes and syncs alone: {bare} us"
-    )
+    )?;
+    println!(rt; "the same at a box with keys: {guarded} us; its writes and syncs alone: {three} us")
 }
