@@ -16,7 +16,9 @@ use dr_disk::Disk;
 use dr_ports::{Door, Draws, Link, Sink, Source};
 use endings::{Ending, Status, finish};
 use relay_command::relay;
-use session_commands::{begin, check, drop_items, long, say, say_long, show, show_keys, sync, take};
+use session_commands::{
+    begin, check, drop_items, long, say, say_long, show, show_keys, sync, take,
+};
 use session_model::{Items, Which};
 use sntrup761::Sntrup761;
 use std::alloc::Global;

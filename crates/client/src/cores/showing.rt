@@ -19,7 +19,10 @@ fn last_of(epoch: u32, count: u32) -> Option<Position>
     if count == 0 {
         return None;
     }
-    Some(Position { epoch, index: count })
+    Some(Position {
+        epoch,
+        index: count,
+    })
 }
 
 /// A side of a conversation in memory: its session and its boxes, without a store. A contract sees

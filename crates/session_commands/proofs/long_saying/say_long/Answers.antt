@@ -34,11 +34,10 @@ returns-in-Ok-clause-runs g c =
         ends = runs.ends;
       };
       quiet = λ zero.
-          let calm = c.say_from.ensures.quiet zero in
-          (
+          let calm = c.say_from.ensures.quiet zero in (
             (calm.0, c.in-Ok.ensures.reads.input.quiet, calm.1),
             (ended runs.ending runs.lines (g.O.Sink.at c.args.out.now) (g.O.Sink.at c.say_from.new.out) c.say_from.result.code
-            zero runs.ends).1,
+                zero runs.ends).1,
           );
       later = c.say_from.ensures.later;
     }
