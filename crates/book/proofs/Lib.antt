@@ -20,6 +20,6 @@ pub mod Fanned
 pub mod Asked
 mod FanStaged
 mod FanSteps
-mod FanPut
+pub mod FanPut
 pub mod FanMachine
 pub mod FanListed

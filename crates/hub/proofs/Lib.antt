@@ -1,0 +1,17 @@
+pub mod Seeds
+pub mod Names
+pub mod Reopened
+pub mod Refused
+pub mod Stopped
+pub mod Crashed
+pub mod Lawful
+pub mod Begun
+pub mod Blank
+pub mod Placing
+pub mod Taken
+pub mod PeerLines
+pub mod Comes
+pub mod Saying
+pub mod Cut
+pub mod Ended
+pub mod Played

@@ -1,0 +1,6 @@
+pub mod Peers
+pub mod Held
+pub mod Beginning
+pub mod Receiving
+pub mod Lines
+pub mod Plays
