@@ -75,14 +75,22 @@ two_given (a ∷ []) d some few = absurd (omega (arith, some))
 two_given (a ∷ b ∷ []) d some few = refl
 two_given (a ∷ b ∷ c ∷ rest) d some few = absurd (omega (arith, few))
 
--- a third value and those after it
-pub three_or_more : (xs : List (Bor Text)) (d : Bor Text) → 3 ≤ length xs
-    → (third : Text) × (others : List Text) × (texts (take (length xs - 2) (drop 2 xs)) ≡ third ∷ others) × (texts xs ≡ (get_or xs 0 d).now ∷ (get_or xs 1 d).now ∷ third ∷ others)
-three_or_more [] d h = absurd (omega arith)
-three_or_more (a ∷ []) d h = absurd (omega arith)
-three_or_more (a ∷ b ∷ []) d h = absurd (omega arith)
-three_or_more (a ∷ b ∷ c ∷ rest) d h =
-    (c.now, texts rest, ap texts (take_all (length (a ∷ b ∷ c ∷ rest) - 2) (c ∷ rest) (omega arith)), refl)
+-- three, and four with those after them
+pub three_given : (xs : List (Bor Text)) (d : Bor Text) → 3 ≤ length xs → length xs < 4
+    → (third : Text) × (texts xs ≡ (get_or xs 0 d).now ∷ (get_or xs 1 d).now ∷ third ∷ [])
+three_given [] d some few = absurd (omega (arith, some))
+three_given (a ∷ []) d some few = absurd (omega (arith, some))
+three_given (a ∷ b ∷ []) d some few = absurd (omega (arith, some))
+three_given (a ∷ b ∷ c ∷ []) d some few = (c.now, refl)
+three_given (a ∷ b ∷ c ∷ e ∷ rest) d some few = absurd (omega (arith, few))
+
+pub four_or_more : (xs : List (Bor Text)) (d : Bor Text) → 4 ≤ length xs
+    → (third fourth : Text) × (others : List Text) × (texts xs ≡ (get_or xs 0 d).now ∷ (get_or xs 1 d).now ∷ third ∷ fourth ∷ others)
+four_or_more [] d h = absurd (omega (arith, h))
+four_or_more (a ∷ []) d h = absurd (omega (arith, h))
+four_or_more (a ∷ b ∷ []) d h = absurd (omega (arith, h))
+four_or_more (a ∷ b ∷ c ∷ []) d h = absurd (omega (arith, h))
+four_or_more (a ∷ b ∷ c ∷ e ∷ rest) d h = (c.now, e.now, texts rest, refl)
 
 module _ (app : App) (words : List Text) (texts : AreTexts words) (is : app ≡ application rows) where
   pub failed : (e : Error) → (is_simple_and_free app ≡ true → HasKind (fault_of app words) e) → (kind_of e ≡ OutOfMemory → ⊥) → None ≡ command_of words

@@ -19,11 +19,11 @@ one_more names i d lt =
     (omega (arith, lt, length-map names (λ (s : Bor Text). s.now)))
     ∙ ap (λ name. with_subcommand (application_of (take i (texts names))) (shape_named name)) (get_or-map (λ (s : Bor Text). s.now) names i d d.now lt)
 
--- where they are those of the rows, there are 29, and all of them make the application
-pub how_many : (names : List (Bor Text)) → texts names ≡ map (λ (row : Row). row.name) rows → length names ≡ 29
+-- where they are those of the rows, there are 30, and all of them make the application
+pub how_many : (names : List (Bor Text)) → texts names ≡ map (λ (row : Row). row.name) rows → length names ≡ 30
 how_many names are = sym (length-map names (λ (s : Bor Text). s.now)) ∙ ap length are
 
-pub all_named : (names : List (Bor Text)) (i : ℕ) → texts names ≡ map (λ (row : Row). row.name) rows → 29 ≤ i
+pub all_named : (names : List (Bor Text)) (i : ℕ) → texts names ≡ map (λ (row : Row). row.name) rows → 30 ≤ i
     → application_of (take i (texts names)) ≡ application rows
 all_named names i are all =
     ap application_of (take_all i (texts names) (omega (arith, all, ap length are))) ∙ ap application_of are

@@ -163,5 +163,5 @@ module _ (name : List ℕ) (apart : (rest : List ℕ) → name ≢ codes "book-"
   here_is ask values is =
       ap (option_map (work_with Folder values)) is
       ∙ work_at Folder (session_rows ++ folder_rows) name values
-      (refl, (refl, (refl, (refl, (refl, (refl, (refl, (refl, (refl, (refl, (refl, (refl, (refl, (refl, (refl, (refl, (refl, (refl, (refl, tt)))))))))))))))))))
+      (refl, (refl, (refl, (refl, (refl, (refl, (refl, (refl, (refl, (refl, (refl, (refl, (refl, (refl, (refl, (refl, (refl, (refl, (refl, (refl, tt))))))))))))))))))))
       ∙ apart_is (session_rows ++ folder_rows) book_rows values none_of_book

@@ -8,10 +8,10 @@ use Rattle.dr_base.specs.declared.limits.TheConstants.{INBOX_LIMIT, OUTBOX_LIMIT
 use Rattle.dr_base.specs.declared.position.Side.{Side}
 use Rattle.dr_base.specs.declared.position.Side.TheVariants.{First, Second}
 use Rattle.command_words.specs.declared.command.Ask.{Ask}
-use Rattle.command_words.specs.declared.command.Ask.TheVariants.{Awaiting, Begin, Check, Done, DoneLong, Duet, DuetMake, Fan, Forget, Inbox, List as Names, Long, Outbox, Relay, RelayKeys, Say, SayLong, Sent, State, Sync, Take}
+use Rattle.command_words.specs.declared.command.Ask.TheVariants.{Awaiting, Begin, Check, Done, DoneLong, Duet, DuetFan, DuetMake, Fan, Forget, Inbox, List as Names, Long, Outbox, Relay, RelayKeys, Say, SayLong, Sent, State, Sync, Take}
 use Rattle.command_words.specs.declared.command.Where.{Where}
 use Rattle.command_words.specs.declared.command.Where.TheVariants.{Book, Folder}
-use Rattle.command_words.specs.declared.limits.TheConstants.{CONNECTION_LIMIT, ID_LIMIT, PORT_LIMIT, ROUND_LIMIT}
+use Rattle.command_words.specs.declared.limits.TheConstants.{CALL_LIMIT, CONNECTION_LIMIT, ID_LIMIT, PEER_LIMIT, PORT_LIMIT, ROUND_LIMIT}
 use Rattle.command_words.specs.Numbers.{number_read}
 use Rattle.command_words.specs.Values.{values_of}
 
@@ -65,6 +65,12 @@ id_read word = amount_read ID_LIMIT word
 unfoldable pub say_long_read : List ℕ → List ℕ → Option Ask
 say_long_read id from =
     option_and_then (λ i. option_map (SayLong i) (number_read from)) (id_read id)
+
+-- a number of people, and a number of writes and syncs that pass before the disk stops
+unfoldable pub fan_play_read : List ℕ → List ℕ → Option Ask
+fan_play_read peers calls =
+    option_and_then (λ p. option_map (DuetFan p) (amount_read CALL_LIMIT calls))
+    (count_read PEER_LIMIT peers)
 
 -- a number of rounds, and the number that the script is made from
 unfoldable pub made_read : List ℕ → List ℕ → Option Ask
@@ -145,6 +151,7 @@ folder_rows =
     ∷ row (codes "relay") (with_more 3) (λ vs. relay_read (value vs 0) (value vs 1))
     ∷ row (codes "duet") (exactly 0) (λ vs. Some Duet)
     ∷ row (codes "duet-make") (exactly 2) (λ vs. made_read (value vs 0) (value vs 1))
+    ∷ row (codes "duet-fan") (exactly 3) (λ vs. fan_play_read (value vs 0) (value vs 1))
     ∷ row (codes "fan") (with_more 2) (λ vs. Some Fan)
     ∷ []
 

@@ -10,7 +10,7 @@ use clap::{Arg, ArgAction, Command};
 use std::alloc::{AllocError, Global};
 
 /// The names of the commands, in the order of their rows.
-fn names() -> [&'static str; 29]
+fn names() -> [&'static str; 30]
     ensures { texts result ≡ map (λ (row : Row). row.name) rows }
 {
     [
@@ -32,6 +32,7 @@ fn names() -> [&'static str; 29]
         "relay",
         "duet",
         "duet-make",
+        "duet-fan",
         "fan",
         "book-list",
         "book-forget",

@@ -61,6 +61,9 @@ pub enum Ask {
     Duet,
     /// A script of this many rounds, made from a number, plays both sides.
     DuetMake { rounds: u32, number: u64 },
+    /// A fan to this many people is played, whose disk stops after so many writes and syncs, in the
+    /// mode that is the third value.
+    DuetFan { peers: u32, calls: u32 },
     /// The sessions of the book whose names are the values from the second on say the text that is
     /// the first value.
     Fan,

@@ -3,12 +3,12 @@
 ghost use Rattle.std.specs.Prelude.{◌≡◌, ◌++◌, ℕ, List, [], ◌∷◌, codes, is_some, option_map};
 ghost use Rattle.clap.specs.Walk.{texts};
 ghost use Rattle.dr_base.specs.declared.limits.TheConstants.{INBOX_LIMIT, OUTBOX_LIMIT};
-ghost use Rattle.command_words.specs.declared.limits.TheConstants.{CONNECTION_LIMIT, ID_LIMIT, PORT_LIMIT, ROUND_LIMIT};
-ghost use Rattle.command_words.specs.Commands.{asked, begin_read, book_rows, command_named, folder_rows, made_read, named_rows, relay_read, row_of, rows, say_long_read, session_rows, work_with};
+ghost use Rattle.command_words.specs.declared.limits.TheConstants.{CALL_LIMIT, CONNECTION_LIMIT, ID_LIMIT, PEER_LIMIT, PORT_LIMIT, ROUND_LIMIT};
+ghost use Rattle.command_words.specs.Commands.{asked, begin_read, book_rows, command_named, fan_play_read, folder_rows, made_read, named_rows, relay_read, row_of, rows, say_long_read, session_rows, work_with};
 ghost use Rattle.command_words.specs.Seen.{work_of};
 
 use crate::command::{Ask, Command, Where};
-use crate::limits::{CONNECTION_LIMIT, ID_LIMIT, ROUND_LIMIT};
+use crate::limits::{CALL_LIMIT, CONNECTION_LIMIT, ID_LIMIT, PEER_LIMIT, ROUND_LIMIT};
 use crate::reading::{amount_of, count_of, format_of, number_of, port_of, side_of};
 use dr_base::{INBOX_LIMIT, OUTBOX_LIMIT};
 
@@ -50,6 +50,16 @@ fn say_long_of(id: &str, from: &str) -> Option<Ask>
     let id = amount_of(ID_LIMIT, id)?;
     let from = number_of(from)?;
     Some(Ask::SayLong { id, from })
+}
+
+/// The fan to play that two words say.
+#[tactic(auto, unfolding(crate::specs::Commands::fan_play_read))]
+fn fan_play_of(peers: &str, calls: &str) -> Option<Ask>
+    ensures { result ≡ fan_play_read peers.now calls.now }
+{
+    let peers = count_of(PEER_LIMIT, peers)?;
+    let calls = amount_of(CALL_LIMIT, calls)?;
+    Some(Ask::DuetFan { peers, calls })
 }
 
 /// Whether a session of a book has the command of this name too.
@@ -147,10 +157,24 @@ fn alone_with_two(name: &str, first: &str, second: &str) -> Option<Ask>
     }
 }
 
-/// What a name with two values, and more after them, asks for that no session of a book has.
+/// What a name with three values asks for that no session of a book has.
+fn alone_with_three(name: &str, first: &str, second: &str) -> Option<Ask>
+    ensures { (third : List ℕ)
+        → result ≡ asked folder_rows name.now (first.now ∷ second.now ∷ third ∷ []) }
+{
+    match name {
+        "relay" => relay_of(first, second),
+        "duet-fan" => fan_play_of(first, second),
+        "fan" => Some(Ask::Fan),
+        _ => None,
+    }
+}
+
+/// What a name with three values, and more after them, asks for that no session of a book has.
 fn alone_with_more(name: &str, first: &str, second: &str) -> Option<Ask>
-    ensures { (third : List ℕ) (others : List (List ℕ))
-        → result ≡ asked folder_rows name.now (first.now ∷ second.now ∷ third ∷ others) }
+    ensures { (third fourth : List ℕ) (others : List (List ℕ))
+        → result ≡ asked folder_rows name.now
+        (first.now ∷ second.now ∷ third ∷ fourth ∷ others) }
 {
     match name {
         "relay" => relay_of(first, second),
@@ -167,6 +191,7 @@ fn asked_alone(name: &str, values: &[&str]) -> Option<Ask>
         [] => alone_bare(name),
         [value] => alone_with(name, value),
         [first, second] => alone_with_two(name, first, second),
+        [first, second, _] => alone_with_three(name, first, second),
         [first, second, ..] => alone_with_more(name, first, second),
     }
 }

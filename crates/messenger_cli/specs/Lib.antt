@@ -7,4 +7,5 @@ pub mod Counts
 pub mod Homes
 pub mod Performing
 pub mod Making
+pub mod FanPlaying
 pub mod Limits

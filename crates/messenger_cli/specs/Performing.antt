@@ -10,7 +10,7 @@ use Rattle.endings.specs.declared.ending.Ending.{Ending}
 use Rattle.endings.specs.declared.ending.Ending.TheVariants.{NoMemory, Usage}
 use Rattle.command_words.specs.Commands.{Work, command_of, value}
 use Rattle.command_words.specs.declared.command.Ask.{Ask}
-use Rattle.command_words.specs.declared.command.Ask.TheVariants.{Begin, Check, Done, DoneLong, Duet, DuetMake, Fan, Forget, Long, Relay, RelayKeys, Say, SayLong, Sent, Sync, Take, Awaiting as ShowsAwaiting, Inbox as ShowsInbox, List as ShowsNames, Outbox as ShowsOutbox, State as ShowsState}
+use Rattle.command_words.specs.declared.command.Ask.TheVariants.{Begin, Check, Done, DoneLong, Duet, DuetFan, DuetMake, Fan, Forget, Long, Relay, RelayKeys, Say, SayLong, Sent, Sync, Take, Awaiting as ShowsAwaiting, Inbox as ShowsInbox, List as ShowsNames, Outbox as ShowsOutbox, State as ShowsState}
 use Rattle.command_words.specs.declared.command.Where.{Where}
 use Rattle.command_words.specs.declared.command.Where.TheVariants.{Book, Folder}
 use Rattle.command_lines.specs.Acting.{ClientAsk}
@@ -37,6 +37,7 @@ use Rattle.session_commands.specs.Syncing.{RunsSync}
 use Rattle.relay_command.specs.Relaying.{RunsRelay}
 use Rattle.sntrup761.specs.Mechanism.{sntrup761_kem}
 use Rattle.messenger_cli.specs.Arguments.{ending_without_words, words_of}
+use Rattle.messenger_cli.specs.FanPlaying.{PlaysFanBy, fan_mode}
 use Rattle.messenger_cli.specs.Homes.{DrawsAndWrites, EndsIdle, Home, ReadsAndWrites, WritesAlone, WritesEnding, home_of, text_of}
 use Rattle.messenger_cli.specs.Held.{IsOffline, LeavesAllButSink, PortTypes, PortsNow, Seen}
 use Rattle.messenger_cli.specs.Making.{PlaysMade}
@@ -76,6 +77,12 @@ pub record FansAlone {P : PortTypes} (seen : Seen P) (text : List ℕ) (names : 
   pub disk : new.disk ≡ old.disk
   pub source : new.source ≡ old.source
   pub offline : IsOffline old new
+
+-- a fan is played: all but the sink is left alone
+pub record PlaysFanAlone {P : PortTypes} (peers calls : ℕ) (word : List ℕ) (seen : Seen P)
+    (old new : PortsNow P) (code : ℕ) : Type 0 where
+  pub writes : WritesEnding (PlaysFanBy peers calls (fan_mode peers word)) seen old new code
+  pub idle : LeavesAllButSink old new
 
 -- a sync at an address: the relay's disk, the book, the source, the door and the draws are left
 -- alone
@@ -176,6 +183,8 @@ Performs Folder Check values seen old new code =
 Performs Folder Duet values seen old new code = PlaysAlone seen old new code
 Performs Folder (DuetMake rounds number) values seen old new code =
     MakesAlone rounds number seen old new code
+Performs Folder (DuetFan peers calls) values seen old new code =
+    PlaysFanAlone peers calls (value values 2) seen old new code
 Performs Folder (Relay port count) values seen old new code =
     ServesAlone seen port count (drop 2 values) old new code
 Performs Folder Sync values seen old new code = SyncsAlone seen (value values 0) old new code

@@ -69,7 +69,7 @@ pub(crate) fn perform_in_book<
         // No words ask so of a book.
         Ask::RelayKeys | Ask::Check | Ask::Sync | Ask::Duet => finish(sink, Ending::Usage),
         Ask::Relay { .. } | Ask::DuetMake { .. } => finish(sink, Ending::Usage),
-        Ask::Fan => finish(sink, Ending::Usage),
+        Ask::DuetFan { .. } | Ask::Fan => finish(sink, Ending::Usage),
         Ask::Long(_) | Ask::DoneLong(_) | Ask::SayLong { .. } => finish(sink, Ending::Usage),
     }
 }

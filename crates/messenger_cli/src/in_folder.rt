@@ -6,6 +6,7 @@ ghost use Rattle.messenger_cli.specs.Counts.{HaveRoom, IsRun};
 ghost use Rattle.messenger_cli.specs.Held.{ports_seen};
 ghost use Rattle.messenger_cli.specs.Performing.{Performs};
 
+use crate::fan_playing::play_fan;
 use crate::making::play_made;
 use crate::playing::play_script;
 use crate::ports::Ports;
@@ -95,6 +96,7 @@ pub(crate) fn perform_in_folder<
             sink,
         ),
         Ask::DuetMake { rounds, number } => play_made(alloc, rounds, number, sink),
+        Ask::DuetFan { peers, calls } => play_fan(alloc, peers, calls, command.value(2), sink),
         // No words ask so here.
         Ask::Forget | Ask::List => finish(sink, Ending::Usage),
     }

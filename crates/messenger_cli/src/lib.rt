@@ -11,6 +11,7 @@ pub use program::{DISK_SIZE, run};
 pub use relay_command::{HALF_SIZE, RELAY_DISK_SIZE};
 
 mod arguments;
+mod fan_playing;
 mod in_book;
 mod in_folder;
 mod law;
