@@ -63,15 +63,19 @@ fn keys_of(guarded: bool) -> Option<BoxKeys> {
 
 /// Puts the frame of a request to the box `a` behind those that stand, with a token of this counter where there is one.
 fn put(bytes: &mut Vec<u8>, head: &[u8], rest: &[u8], counter: Option<u64>) -> io::Result<()> {
-    let len = head.len().wrapping_add(rest.len()).wrapping_add(1);
-    match counter {
-        None => bytes.extend_from_slice(&(len as u16).to_be_bytes())?,
-        Some(counter) => {
-            bytes.extend_from_slice(&(len.wrapping_add(TOKEN) as u16).to_be_bytes())?;
-            bytes.push(4)?;
-            bytes.extend_from_slice(&counter.to_be_bytes())?;
-            bytes.extend_from_slice(&token_tag(&key(), counter, head, b"a", rest))?;
-        }
+    let bare = head.len().wrapping_add(rest.len()).wrapping_add(1);
+    let body = match counter {
+        None => bare,
+        Some(_) => bare.wrapping_add(TOKEN),
+    };
+    let Ok(len) = u16::try_from(body) else {
+        return Err(Error::from(ErrorKind::InvalidInput));
+    };
+    bytes.extend_from_slice(&len.to_be_bytes())?;
+    if let Some(counter) = counter {
+        bytes.push(4)?;
+        bytes.extend_from_slice(&counter.to_be_bytes())?;
+        bytes.extend_from_slice(&token_tag(&key(), counter, head, b"a", rest))?;
     }
     bytes.extend_from_slice(head)?;
     bytes.extend_from_slice(b"a")?;
