@@ -42,6 +42,8 @@ pub(crate) struct Handle<'a, R: Files<File = File>> {
     sharing: Sharing,
     mark: Option<&'a str>,
     whole: u64,
+    /// The length that the file was given by this disk, or has at least.
+    room: u64,
     stage: Stage,
 }
 
@@ -74,6 +76,7 @@ impl<'a, R: Files<File = File>> Handle<'a, R> {
             sharing,
             mark: None,
             whole: 0,
+            room: 0,
             stage: Stage::Unopened,
         }
     }
@@ -132,8 +135,8 @@ impl<'a, R: Files<File = File>> Handle<'a, R> {
     }
 
     /// Writes over the bytes from a place on. A file that has fewer bytes than `length` is given
-    /// these first, and where there is no file it is made. A file that was made and couldn't be
-    /// given its bytes is removed again.
+    /// these first, which is looked for once: nobody else makes the file shorter. Where there is no
+    /// file it is made. A file that was made and couldn't be given its bytes is removed again.
     pub(crate) fn write(&mut self, at: u64, bytes: &[u8], length: u64) -> io::Result<()> {
         self.look()?;
         if let Stage::Missing { turn: _ } = self.stage {
@@ -147,7 +150,10 @@ impl<'a, R: Files<File = File>> Handle<'a, R> {
                 if let Written::Nothing = written {
                     *written = Written::Unsynced;
                 }
-                file.fill(length)?;
+                if self.room < length {
+                    file.fill(length)?;
+                    self.room = length;
+                }
                 file.write(at, bytes)
             }
             _ => Err(Error::from(ErrorKind::NotFound)),

@@ -93,15 +93,26 @@ impl OwnFile {
         self.file.write_all_at(bytes, at)
     }
 
-    /// Gives the file `length` bytes, if it has fewer, by writing zeros. So the system has room for
-    /// all of them.
-    pub(crate) fn fill(&self, length: u64) -> io::Result<()> {
+    /// Writes zeros from the file's end up to `length`.
+    // Not inlined, so that its zeros are made where they are written alone.
+    #[inline(never)]
+    fn lengthen(&self, end: u64, length: u64) -> io::Result<()> {
         let zeros = [0; PIECE as usize];
-        let mut end = self.file.metadata()?.len();
+        let mut end = end;
         'pieces: while end < length {
             let count = (length - end).min(PIECE);
             self.file.write_all_at(&zeros[..count as usize], end)?;
             end += count;
+        }
+        Ok(())
+    }
+
+    /// Gives the file `length` bytes, if it has fewer, by writing zeros. So the system has room for
+    /// all of them.
+    pub(crate) fn fill(&self, length: u64) -> io::Result<()> {
+        let end = self.file.metadata()?.len();
+        if end < length {
+            return self.lengthen(end, length);
         }
         Ok(())
     }

@@ -1,5 +1,5 @@
 use Rattle.std.proofs.Common.{◌-◌}
-use Rattle.file_disk.proofs.own_file.OwnFile.fill.Given as goal
+use Rattle.file_disk.proofs.own_file.OwnFile.lengthen.Given as goal
 
 abbrev pub decreases-pieces : goal.decreases-pieces
 decreases-pieces l = l.length - l.end
