@@ -56,6 +56,22 @@ pub fn record_memory(alloc: Global, bounds: Bounds) -> Result<Vec<u8>, AllocErro
     Vec::with_capacity(alloc, PAGE * record_most(bounds) as usize)
 }
 
+/// Makes a room as long as so many pages, in the memory that it has: what stands in it stays, with
+/// zeros behind it, which are put there a page at a time.
+pub(crate) fn stretch(room: &mut Vec<u8>, pages: usize)
+    requires memory { PAGE * pages ≤ vec_capacity room.old }
+    ensures long { length room.new.items ≡ PAGE * pages }
+    ensures memory { vec_capacity room.old ≤ vec_capacity room.new }
+{
+    let zeros = [0; PAGE];
+    let end = PAGE * pages;
+    room.truncate(end);
+    'pages: while room.len() < end {
+        let count = (end - room.len()).min(PAGE);
+        room.extend_from_slice(&zeros[..count]).unwrap();
+    }
+}
+
 /// Makes the room in which a record of `len` bytes is put together as long as the record's pages,
 /// in the memory that it has.
 pub fn lengthen(bounds: Bounds, room: &mut Vec<u8>, len: usize)
@@ -65,7 +81,7 @@ pub fn lengthen(bounds: Bounds, room: &mut Vec<u8>, len: usize)
     ensures memory { HasRecordMemory bounds room.new }
 {
     let _most = record_most(bounds);
-    room.resize(PAGE * page_count(len), 0).unwrap();
+    stretch(room, page_count(len));
 }
 
 /// Makes the bytes from a place up to another one zeros.

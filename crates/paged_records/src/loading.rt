@@ -17,7 +17,7 @@ ghost use Rattle.paged_records.specs.Memory.{HasRoomToLoad};
 
 use crate::bounds::{Bounds, least_number, number_end, record_most};
 use crate::grammar::Grammar;
-use crate::kept::Kept;
+use crate::kept::{Kept, stretch};
 use dr_base::PAGE;
 use dr_disk::{Call, Disk};
 use pages::{Layout, read_page};
@@ -72,7 +72,7 @@ fn fill<D: Disk>(
     ensures room { vec_capacity bytes.old ≤ vec_capacity bytes.new }
     ensures looks { ReadsAlone (length numbers.now) (D.state disk.old) (D.state disk.new) result }
 {
-    bytes.resize(PAGE * numbers.len(), 0).unwrap();
+    stretch(bytes, numbers.len());
     read_pages(disk, layout, numbers, bytes)
 }
 

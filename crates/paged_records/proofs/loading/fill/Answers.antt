@@ -11,13 +11,13 @@ pub returns-clause-pages : goal.returns-clause-pages
 returns-clause-pages g c =
     let numbers = c.args.numbers.now in
     let read = c.read_pages.new.bytes in
-    let whole : (with_items c.resize.new.self read).items ≡ read =
-    with_items_is c.resize.new.self read (omega (arith, c.read_pages.ensures.long, ap length c.deref_mut.ensures.value, c.resize.new.self.ok.0)) in
+    let whole : (with_items c.stretch.new.room read).items ≡ read =
+    with_items_is c.stretch.new.room read (omega (arith, c.read_pages.ensures.long, ap length c.deref_mut.ensures.value, c.stretch.new.room.ok.0)) in
     subst (λ (l : List ℕ). OnOk c.read_pages.result (OnSeen (λ s. cut (length numbers) l ≡ map (page_of c.args.layout s) numbers)
     (g.D.Disk.state c.args.disk.now))) (sym whole) c.read_pages.ensures.pages
 
 pub returns-clause-long : goal.returns-clause-long
 returns-clause-long g c =
-    let read = with_items_is c.resize.new.self c.read_pages.new.bytes (c.read_pages.ensures.long ∙ c.deref_mut.ensures.len) in
+    let read = with_items_is c.stretch.new.room c.read_pages.new.bytes (c.read_pages.ensures.long ∙ c.deref_mut.ensures.len) in
     ap (λ (l : List ℕ). length l) read ∙ c.read_pages.ensures.long ∙ c.deref_mut.ensures.len
-    ∙ rw c.unwrap.ensures at c.resize.ensures.len
+    ∙ omega (arith, c.stretch.ensures.long, c.stretch.new.room.ok.0)
