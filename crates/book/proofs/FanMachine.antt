@@ -53,7 +53,7 @@ same_name (Some row) next = refl
 
 -- ---- a session that says the text, as the machine has it
 
-seed_given : (seed : Option Key32) → given_or [] (key_bytes seed) ≡ seed_bytes seed
+pub seed_given : (seed : Option Key32) → given_or [] (key_bytes seed) ≡ seed_bytes seed
 seed_given None = refl
 seed_given (Some seed) = refl
 
@@ -82,8 +82,18 @@ done_of k text kept seed says = by (say_on k kept (text_content text) (seed_byte
     }
     by (Err e) is ok = absurd (let f : IsOk {T = SaidText} (Err e) = subst (λ (r : Result SaidText Refusal). IsOk r) is ok in cc)
 
-module _ (k : Mechanism) (fan : Fan) (all : AllSay k fan) (book : BookNow) (disk : DiskState) (ready : IsBookReady book disk)
-    (same : book.rows ≡ fan.rows) where
+-- each present row is the only one of its name
+abbrev pub AreOnly : Rows Client → Type 0
+AreOnly rows = (at : ℕ) (row : Row Client) → get_or rows at None ≡ Some row → IsOnly row.name rows at row
+
+pub only_place : (name : List ℕ) (rows : Rows Client) (at : ℕ) (row : Row Client) → IsOnly name rows at row
+    → IsPlaceOf name rows at
+only_place name rows at row is = record {
+  named = ap (λ (o : Option (Row Client)). is_named name o) is.here ∙ is.named;
+  first = λ q less. is.others q (λ e. absurd (omega (arith, less, e)));
+}
+
+module _ (k : Mechanism) (fan : Fan) (all : AllSay k fan) (onlys : AreOnly fan.rows) where
   abbrev next : ℕ → Option (Row Client)
   next n = said_row k fan.text (fan_seed fan n) (fan_row fan n)
 
@@ -100,14 +110,14 @@ module _ (k : Mechanism) (fan : Fan) (all : AllSay k fan) (book : BookNow) (disk
       (cases_eq q (fan_place fan n))
 
   module _ (n : ℕ) (lt : n < length fan.list) where
-    row : (row : Row Client) × (fan_row fan n ≡ Some row)
+    pub row : (row : Row Client) × (fan_row fan n ≡ Some row)
     row = here k fan all n lt
 
     abbrev name : List ℕ
     name = row.0.name
 
-    first_only : IsOnly name fan.rows (fan_place fan n) row.0
-    first_only = only fan.rows book.store (ready.holds ∙ ap stored same) ready.rests.marked (fan_place fan n) row.0 row.1
+    pub first_only : IsOnly name fan.rows (fan_place fan n) row.0
+    first_only = onlys (fan_place fan n) row.0 row.1
 
     now_only : IsOnly name (fanned_rows k fan n) (fan_place fan n) row.0
     now_only = record {
@@ -117,20 +127,15 @@ module _ (k : Mechanism) (fan : Fan) (all : AllSay k fan) (book : BookNow) (disk
           (names_same n q (omega (arith, lt))) ∙ first_only.others q apart;
     }
 
-    now_place : IsPlaceOf name (fanned_rows k fan n) (fan_place fan n)
-    now_place = record {
-      named = ap (λ (o : Option (Row Client)). is_named name o) now_only.here ∙ now_only.named;
-      first = λ q less. now_only.others q (λ e. absurd (omega (arith, less, e)));
-    }
-
-    kept_now : under name (fanned_rows k fan n) ≡ Some row.0.kept
-    kept_now = under_at name (fanned_rows k fan n) (fan_place fan n) row.0 now_place now_only.here
+    pub kept_now : under name (fanned_rows k fan n) ≡ Some row.0.kept
+    kept_now = under_at name (fanned_rows k fan n) (fan_place fan n) row.0
+        (only_place name (fanned_rows k fan n) (fan_place fan n) row.0 now_only) now_only.here
 
     done : IsDone k fan.text row.0.kept (fan_seed fan n)
     done = done_of k fan.text row.0.kept (fan_seed fan n)
         (subst (λ (o : Option (Row Client)). Says k fan.text (kept_of o) (fan_seed fan n)) row.1 (all.say n lt))
 
-    keeps : keeping name (said_next k fan.text row.0.kept (fan_seed fan n)) (fanned_rows k fan n) ≡ fanned_rows k fan (suc n)
+    pub keeps : keeping name (said_next k fan.text row.0.kept (fan_seed fan n)) (fanned_rows k fan n) ≡ fanned_rows k fan (suc n)
     keeps = keeping_is name (said_next k fan.text row.0.kept (fan_seed fan n)) (fanned_rows k fan n) (fan_place fan n) row.0 now_only
         ∙ ap (λ (o : Option (Row Client)). set (fanned_rows k fan n) (fan_place fan n)
         (said_row k fan.text (fan_seed fan n) o)) (sym row.1)
@@ -186,7 +191,8 @@ module _ (k : Mechanism) (fan : Fan) (old new : BookNow) where
       → old.closed ≡ None → new.closed ≡ None → new.rows ≡ fanned_rows k fan (length fan.list)
       → (said : List RowAnswer) × IsFanStep k old new fan None (fanned said)
   fan_step all disk ready same some is_open stays_open rows =
-      let all_said = goes_on k fan all old disk ready same (length fan.list) 0 (omega arith) in (
+      let all_said = goes_on k fan all (only fan.rows old.store (ready.holds ∙ ap stored same) ready.rests.marked)
+      (length fan.list) 0 (omega arith) in (
         all_said.0,
         on_open k [] old new (record { wanted = Wants; mishap = None }) _ is_open
             (ap opened (goes_fan (length fan.list) some

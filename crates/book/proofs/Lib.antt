@@ -23,3 +23,4 @@ mod FanSteps
 pub mod FanPut
 pub mod FanMachine
 pub mod FanListed
+pub mod Worlds

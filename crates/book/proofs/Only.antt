@@ -8,6 +8,7 @@ use Rattle.book_store.specs.Marks.{RowMark}
 use Rattle.book_store.specs.Shown.{BookRow}
 use Rattle.book_store.specs.Store.{BookStore}
 use Rattle.book_store.proofs.Books.Listed.{mark_at}
+use Rattle.record_pages.specs.Pages.{page_count}
 use Rattle.relay_wire.specs.Names.{is_name}
 use Rattle.session_model.specs.Clients.{Client}
 use Rattle.session_record.specs.Record.{record_text}
@@ -42,6 +43,11 @@ module _ (rows : Rows Client) (store : BookStore) (holds : store.held ≡ stored
 
   pub lawful_name : (r : ℕ) (row : Row Client) → get_or rows r None ≡ Some row → is_name row.name ≡ true
   lawful_name r row here = (marked.marks.lawful r (mark_of r row) (mark_is r row here)).named
+
+  -- each page of a row has a number
+  pub numbers_long : (r : ℕ) (row : Row Client) → get_or rows r None ≡ Some row
+      → length (get_or store.mark.numbers r []) ≡ page_count (length (record_text row.kept))
+  numbers_long r row here = (marked.marks.lawful r (mark_of r row) (mark_is r row here)).each
 
   pub only : (at : ℕ) (row : Row Client) → get_or rows at None ≡ Some row → IsOnly row.name rows at row
   only at row here = record {

@@ -3,7 +3,7 @@ use Rattle.std.specs.Prelude.{Err, List, None, Ok, Option, Result, Some, [], len
 use Rattle.book_model.specs.Runs.{failed, fanned, fans, happens}
 use Rattle.book_model.specs.Steps.{Mishap, store_fault}
 use Rattle.dr_base.specs.declared.key.Key32.{Key32}
-use Rattle.dr_model.specs.Machines.Acts.{saying}
+use Rattle.dr_model.specs.Machines.Acts.{Act, saying}
 use Rattle.dr_ports.specs.States.{DrawsState}
 use Rattle.kem_laws.specs.Mechanism.{Mechanism}
 use Rattle.session_model.specs.Contents.{text_content}
@@ -14,10 +14,16 @@ use Rattle.book.specs.RowKeepings.{known_name, name_of}
 use Rattle.book.specs.declared.refusals.FanRefusal.{FanRefusal}
 use Rattle.book.specs.declared.refusals.FanRefusal.TheVariants.{StoreFault}
 
--- the call of its n-th session, and so many calls from that one on
+-- the name of its n-th session, and what that does
+abbrev pub fan_name : Fan → ℕ → List ℕ
+fan_name fan n = known_name (name_of (fan_row fan n))
+
+abbrev pub fan_act : Fan → ℕ → Act
+fan_act fan n = saying (text_content fan.text) (key_bytes (fan_seed fan n))
+
+-- its call, and so many calls from that one on
 abbrev pub fan_call : Fan → ℕ → List ℕ × RowCall
-fan_call fan n =
-    (known_name (name_of (fan_row fan n)), acts (saying (text_content fan.text) (key_bytes (fan_seed fan n))))
+fan_call fan n = (fan_name fan n, acts (fan_act fan n))
 
 abbrev pub fan_calls : Fan → ℕ → ℕ → List (List ℕ × RowCall)
 fan_calls fan n zero = []

@@ -17,3 +17,4 @@ pub mod Fans
 pub mod Fanning
 pub mod Putting
 pub mod FanStepping
+pub mod FanWorlds

@@ -19,6 +19,7 @@ mod fans;
 mod keeping;
 pub mod laws;
 mod opening;
+mod peers;
 mod reading;
 mod refusals;
 mod renewing;

@@ -21,12 +21,12 @@ use Rattle.book_commands.specs.FanEndings.{ending_of_add, ending_of_peer, listed
 use Rattle.book_commands.specs.Fanning.{FansOn, RunsFan, had_no_name, was_cut, was_fanned, was_opened, was_refused, wasnt_added, wasnt_opened}
 use Rattle.book_commands.proofs.Codes.{open_code}
 
-add_code : (error : FanAddError) → code_of (ending_of_add error) ≡ 0 → ⊥
+pub add_code : (error : FanAddError) → code_of (ending_of_add error) ≡ 0 → ⊥
 add_code NoName e = omega (arith, e)
 add_code Twice e = omega (arith, e)
 add_code FanFull e = omega (arith, e)
 
-peer_code : (name : List ℕ) (refusal : SayRefusal) → code_of (ending_of_peer name refusal) ≡ 0 → ⊥
+pub peer_code : (name : List ℕ) (refusal : SayRefusal) → code_of (ending_of_peer name refusal) ≡ 0 → ⊥
 peer_code name (Refused refusal) e = omega (arith, e)
 peer_code name DrawFault e = omega (arith, e)
 peer_code name (NoPair seed) e = omega (arith, e)

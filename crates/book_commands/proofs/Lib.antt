@@ -14,4 +14,5 @@ mod FanAdded
 mod FanChanged
 mod FanRuns
 mod FanCodes
+mod FanReached
 mod FanWritten

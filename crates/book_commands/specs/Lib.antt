@@ -8,3 +8,4 @@ pub mod Others
 pub mod FanEndings
 pub mod FanLines
 pub mod Fanning
+pub mod FanWorlds

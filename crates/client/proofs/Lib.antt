@@ -1,6 +1,6 @@
 pub mod Ahead
 mod Areas
-mod Beginnings
+pub mod Beginnings
 pub mod Drawing
 mod Exchanged
 pub mod Lawful

@@ -22,7 +22,8 @@ use Rattle.command_lines.specs.Asking.{SaysContent, with_seed, without_seed}
 use Rattle.command_lines.specs.InWorlds.{goes_on, is_in_doubt, stays_refused, stays_undrawn, stays_unopened}
 use Rattle.session_commands.specs.WholeRuns.{Command, Ran, acted, asked_by, showed, stayed, synced, was_cut_acting, was_cut_showing, was_cut_staying, was_cut_syncing, was_left_alone}
 use Rattle.conversation.specs.Answered.{WasAnswered}
-use Rattle.conversation.proofs.Spoken.{IsSpoken, spoken}
+use Rattle.dr_model.specs.Theorems.Spoken.{IsSpoken}
+use Rattle.dr_model.proofs.Saying.Spoken.{spoken}
 
 -- an act was answered so, in a world that was known, and leads to the one that is known then
 pub record Acting (k : Mechanism) (side : Side) (before : Known) (last : World)

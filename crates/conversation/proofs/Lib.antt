@@ -5,7 +5,6 @@ pub mod Joined
 pub mod Lasting
 pub mod Held
 pub mod Honest
-pub mod Spoken
 pub mod Answering
 pub mod Said
 pub mod Counts

@@ -27,7 +27,7 @@ use Rattle.conversation.specs.Joints.{Joint, known_in}
 use Rattle.conversation.proofs.Answering.{answered_in, opened_in, said_in}
 use Rattle.conversation.proofs.Held.{later_known}
 use Rattle.conversation.proofs.Lasting.{keeps}
-use Rattle.conversation.proofs.Spoken.{IsSpoken}
+use Rattle.dr_model.specs.Theorems.Spoken.{IsSpoken}
 use Rattle.session_model.specs.Contents.{Content}
 use Rattle.session_model.specs.declared.answer.Answer.TheVariants.{Opened, Said}
 

@@ -1,3 +1,4 @@
 pub mod Keeping
 pub mod ActsFollowing
 pub mod Posting
+pub mod SaidOpened

@@ -7,3 +7,4 @@ pub mod SaidBodies
 pub mod SayingText
 pub mod SayingTurn
 pub mod OwnSide
+pub mod Spoken

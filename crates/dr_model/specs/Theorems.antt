@@ -7,3 +7,4 @@ pub mod Erasure
 pub mod Acting
 pub mod ViewWorlds
 pub mod Receipts
+pub mod Spoken

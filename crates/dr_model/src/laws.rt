@@ -10,6 +10,7 @@ ghost use Rattle.dr_model.specs.Theorems.Headline.{Headline};
 ghost use Rattle.dr_model.specs.Theorems.Receipts.{ReceiptsAreTrue};
 ghost use Rattle.dr_model.specs.Theorems.ViewWorlds.{ViewsHaveWorlds};
 ghost use Rattle.dr_model.specs.Theorems.Sessions.{SessionsAgree};
+ghost use Rattle.dr_model.specs.Theorems.Spoken.{SaidIsOpened};
 ghost use Rattle.kem_laws.specs.Mechanism.{IsLawfulMechanism, Mechanism};
 
 /// Whatever is said and taken, in every order: within the limits each text is opened at its first
@@ -68,4 +69,12 @@ pub fn one_draft_is_accepted()
 /// that it took says so, was opened by the other side.
 pub fn receipts_are_true()
     ensures { (k : Mechanism) → ReceiptsAreTrue k }
+{}
+
+/// What one side says, the other opens: the packet comes last in the side's outbox, and whatever
+/// happens from then on it is no forged one. When it arrives for the first time, within the limits,
+/// the other side opens it to what was said, byte for byte, and so does its session; that stands in
+/// the history once.
+pub fn said_is_opened()
+    ensures { (k : Mechanism) → IsLawfulMechanism k → SaidIsOpened k }
 {}

@@ -5,7 +5,7 @@
 
 pub use laws::{
     acts_follow, both_sides_follow, erasure, headline, one_draft_is_accepted, receipts_are_true,
-    sessions_agree, views_have_worlds,
+    said_is_opened, sessions_agree, views_have_worlds,
 };
 
 mod laws;

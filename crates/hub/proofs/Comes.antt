@@ -17,18 +17,24 @@ use Rattle.kem_laws.specs.Mechanism.{Mechanism}
 use Rattle.pages.specs.Stops.{put_took}
 use Rattle.session_model.specs.Clients.{Client}
 use Rattle.hub.specs.Peers.{first_draws, hello, hub_rows, places}
-use Rattle.hub.specs.Plays.{HubFan, IsLeftOf, hub_calls, hub_writes}
+use Rattle.hub.specs.Held.{AreLawful}
+use Rattle.hub.specs.Leaving.{HubFan, IsLeftOf, hub_calls, hub_writes}
 use Rattle.hub.proofs.Placing.{places_long}
 use Rattle.hub.proofs.Stopped.{IsCounted, many}
 
 module _ (k : Mechanism) (peers after : ℕ) (mode : Mode) (old new : BookNow) (start now : MemoryDisk) (source left : Turning)
     (rows : old.rows ≡ hub_rows k peers) (ready : IsBookReady old (state_of start)) (is : source ≡ first_draws peers)
-    (fails : to_failure (state_of start).fate ≡ Some after) (anew : (state_of start).passed ≡ Some 0) where
+    (fails : to_failure (state_of start).fate ≡ Some after) (anew : (state_of start).passed ≡ Some 0)
+    (count : old.store.rows ≡ peers) (lawful : AreLawful k old.rows) where
   -- the fan that was asked for
   unfoldable pub hub_of : (seeds : List (Option Key32))
       → AreAsked turning_at k hello old.rows (places peers) source (length (places peers)) left seeds → HubFan k peers
   hub_of seeds asked = record {
+    lawful = subst (AreLawful k) rows lawful;
     store = old.store;
+    count = count;
+    marked = ready.rests.marked;
+    dropped = ready.rests.dropped;
     holds = ready.holds ∙ ap stored rows;
     seeds = seeds;
     left = left;

@@ -2,6 +2,7 @@
 use Rattle.std.proofs.Common.{Bool, Err, List, Option, Some, ap, arith, false, if◌then◌else◌, length, refl, subst, true, ℕ, ◌∙◌, ◌≡◌}
 use Rattle.std.specs.Prelude.{nat_le, ◌||◌}
 use Rattle.book.proofs.Asked.{all_say}
+use Rattle.book.proofs.Worlds.Drawn.{asked_whole}
 use Rattle.book.proofs.Fanned.{held_is, rows_long as fanned_long, store_rows}
 use Rattle.book.specs.Books.{BookNow, IsBookReady}
 use Rattle.book.specs.Fanning.{FansOut}
@@ -26,12 +27,12 @@ use Rattle.pages.specs.Stops.{put_took}
 use Rattle.session_model.specs.Clients.{Client}
 use Rattle.hub.specs.Held.{AreLawful, LeavesRows}
 use Rattle.hub.specs.Peers.{first_draws, hello, hub_begin, hub_rows, places}
-use Rattle.hub.specs.Plays.{HubFan, IsLeftOf, hub_calls, hub_writes}
+use Rattle.hub.specs.Leaving.{HubFan, IsLeftOf, hub_calls, hub_writes}
 use Rattle.hub.proofs.Blank.{RestsWithRows}
 use Rattle.hub.proofs.Comes.{calls_are, hub_of}
 use Rattle.hub.proofs.Names.{rows_long}
 use Rattle.hub.proofs.Placing.{places_long}
-use Rattle.hub.proofs.Saying.{asked_whole, fanned_lawful}
+use Rattle.hub.proofs.Saying.{fanned_lawful}
 use Rattle.hub.proofs.Stopped.{left_rows, too_few}
 
 -- a store at rest has its rows
@@ -97,7 +98,7 @@ module _ (k : Mechanism) (peers after : ℕ) (mode : Mode) (old new : BookNow) (
 
   kept : (b : Bool) → AreLawful k (if b then said else old.rows)
   kept true = fanned_lawful k fan law all lawful
-      (λ n lt. asked_whole k hello old.rows (places peers) source all_places left seeds asked n lt) all_places (omega arith)
+      (λ n lt. asked_whole turning_at k hello old.rows (places peers) source all_places left seeds asked n lt) all_places (omega arith)
   kept false = lawful
 
   pub leaves : LeavesRows k peers rows_cut mode (state_of now)
@@ -112,12 +113,12 @@ module _ (k : Mechanism) (peers after : ℕ) (mode : Mode) (old new : BookNow) (
   }
 
   abbrev hub : HubFan k peers
-  hub = hub_of k peers after mode old new start now source left rows ready is fails anew seeds asked
+  hub = hub_of k peers after mode old new start now source left rows ready is fails anew count lawful seeds asked
 
   cut_off : false ≡ nat_le (hub_calls k peers hub) after
   cut_off =
       subst (λ n. false ≡ nat_le n after)
-      (calls_are k peers after mode old new start now source left rows ready is fails anew seeds asked)
+      (calls_are k peers after mode old new start now source left rows ready is fails anew count lawful seeds asked)
       (too_few writes after staged new.store old.store.held start now fails anew fault out.changes.takes)
 
   pub left_of : (acknowledged : Bool) (found : Rows Client) → acknowledged ≡ false → found ≡ rows_cut

@@ -18,7 +18,8 @@ use Rattle.session_model.specs.Clients.{Client}
 use Rattle.session_model.specs.declared.answer.Refusal.{Refusal}
 use Rattle.hub.specs.Held.{AreLawful, IsHeld, LeavesRows, LeavesSessions}
 use Rattle.hub.specs.Peers.{first_draws, hello, hub_rows, places}
-use Rattle.hub.specs.Plays.{IsLeftOf, IsRefusalOf, IsRefusedAt}
+use Rattle.hub.specs.Leaving.{IsLeftOf}
+use Rattle.hub.specs.Plays.{IsRefusalOf, IsRefusedAt}
 use Rattle.hub.proofs.Blank.{RestsWithRows}
 use Rattle.hub.proofs.Comes.{acknowledged}
 use Rattle.hub.proofs.Cut.{leaves, left_of, rows_cut}
@@ -81,9 +82,10 @@ module _ (k : Mechanism) (peers after : ℕ) (old new : BookNow) (disk now : Mem
     ready : IsBookReady old (state_of start)
     ready = still_ready held.is_open.1
 
-    pub acknowledged_of : Fans (Ok tt) → IsCounted (state_of now) → IsLeftOf k peers after mode true new.rows
-    acknowledged_of fans told =
-        acknowledged k peers after mode old new start now source left rows ready is refl refl fans told
+    pub acknowledged_of : old.store.rows ≡ peers → AreLawful k old.rows → Fans (Ok tt) → IsCounted (state_of now)
+        → IsLeftOf k peers after mode true new.rows
+    acknowledged_of count lawful fans told =
+        acknowledged k peers after mode old new start now source left rows ready is refl refl count lawful fans told
 
     module _ (law : IsLawfulMechanism k) (resting : RestsWithRows) (count : old.store.rows ≡ peers)
         (lawful : AreLawful k old.rows) (few : peers ≤ 8) (listed : AreListed old.rows (places peers)) (call : Call)

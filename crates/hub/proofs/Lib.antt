@@ -14,4 +14,10 @@ pub mod Comes
 pub mod Saying
 pub mod Cut
 pub mod Ended
+pub mod HubFans
+pub mod FirstSaid
+pub mod HubWorlds
+pub mod Opened
+pub mod Told
+pub mod Counting
 pub mod Played

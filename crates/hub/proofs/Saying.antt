@@ -1,19 +1,15 @@
 -- The sessions of a fan stay lawful.
-use Rattle.std.proofs.Common.{Err, List, None, Ok, Option, Result, Some, [], ap, arith, false, get_or, length, refl, subst, suc, sym, true, zero, ℕ, ⊎_elim, ◌++◌, ◌<◌, ◌∙◌, ◌∷◌, ◌≡◌, ◌≤◌}
+use Rattle.std.proofs.Common.{Err, None, Ok, Option, Result, Some, ap, arith, false, get_or, length, refl, subst, suc, sym, true, zero, ℕ, ⊎_elim, ◌<◌, ◌∙◌, ◌≡◌, ◌≤◌}
 use Rattle.std.proofs.Math.ListN.{set}
-use Rattle.std.proofs.Math.Seq.{get_or-append_seam}
 use Rattle.std.proofs.lemmas.Bool.{cases_eq}
-use Rattle.std.proofs.lemmas.List.{get_or-set_other, get_or-set_same, get_or_append_left}
+use Rattle.std.proofs.lemmas.List.{get_or-set_other, get_or-set_same}
 use Rattle.std.specs.Prelude.{IsOk, is_some}
-use Rattle.book.proofs.Asked.{asked_long}
 use Rattle.book.proofs.Fanned.{here, inside_rows, rows_long}
-use Rattle.book.specs.Fans.{AllSay, AreAsked, Fan, fan_place, fan_row, fan_seed, fanned_rows, key_bytes, none_asked, one_more, said_next, said_or, said_row}
+use Rattle.book.proofs.Worlds.Drawn.{IsWhole}
+use Rattle.book.specs.Fans.{AllSay, Fan, fan_place, fan_row, fan_seed, fanned_rows, said_next, said_or, said_row}
 use Rattle.book.specs.RowKeepings.{kept_of, with_kept}
-use Rattle.book.specs.Stepping.{WasDrawn, was_none, was_seed}
-use Rattle.book_model.specs.Rows.{Row, Rows}
+use Rattle.book_model.specs.Rows.{Row}
 use Rattle.client.proofs.Lawful.Acts.{say_lawful}
-use Rattle.dr_base.specs.declared.key.Key32.{Key32}
-use Rattle.dr_ports.specs.Memory.{Turning, turning_at}
 use Rattle.kem_laws.specs.Mechanism.{IsLawfulMechanism, Mechanism}
 use Rattle.ratchet.specs.Seen.{seed_bytes}
 use Rattle.session_model.specs.Clients.{Client, SaidText, say_on}
@@ -22,42 +18,6 @@ use Rattle.session_model.specs.declared.answer.Refusal.{Refusal}
 use Rattle.session_record.specs.Lawful.{IsLawfulClient}
 use Rattle.hub.specs.Held.{AreLawful}
 
--- a seed is 32 bytes
-abbrev pub IsWhole : Option Key32 → Type 0
-IsWhole seed = is_some seed ≡ true → length (seed_bytes seed) ≡ 32
-
-drawn_long : (source left : Turning) (bytes : Option (List ℕ)) → WasDrawn turning_at source left bytes
-    → (key : List ℕ) → bytes ≡ Some key → length key ≡ 32
-drawn_long source left bytes (was_none same) key is = absurd (let e : None ≡ Some key = is in cc)
-drawn_long source left bytes (was_seed seed long coming faults) key is =
-    let same : seed ≡ key = let e : Some seed ≡ Some key = is in cc in
-    ap (λ (l : List ℕ). length l) (sym same) ∙ long
-
-drawn_whole : (source left : Turning) (seed : Option Key32) → WasDrawn turning_at source left (key_bytes seed) → IsWhole seed
-drawn_whole source left None drew needs = absurd (let e : false ≡ true = needs in cc)
-drawn_whole source left (Some key) drew needs = drawn_long source left (Some key.bytes) drew key.bytes refl
-
-module _ (k : Mechanism) (text : List ℕ) (rows : Rows Client) (list : List ℕ) (source : Turning) where
-  -- each seed of those who were asked
-  pub asked_whole : (n : ℕ) (left : Turning) (seeds : List (Option Key32))
-      → AreAsked turning_at k text rows list source n left seeds → (i : ℕ) → i < n → IsWhole (get_or seeds i None)
-  asked_whole n left seeds none_asked i lt = absurd (let e : ⊥ = omega (arith, lt) in e)
-  asked_whole n left seeds (one_more m mid l before seed asked asks) i lt =
-      ⊎_elim same
-      (λ apart. other (asked_whole m mid before asked i (let e : i ≡ m → ⊥ = apart in omega (arith, lt)))
-      (let e : i ≡ m → ⊥ = apart in omega (arith, lt, long))) (cases_eq i m)
-    where
-      long : length before ≡ m
-      long = asked_long turning_at k text rows list source m mid before asked
-
-      same : i ≡ m → IsWhole (get_or (before ++ seed ∷ []) i None)
-      same is = subst IsWhole
-          (sym (ap (λ q. get_or (before ++ seed ∷ []) q None) (is ∙ sym long) ∙ get_or-append_seam before seed [] None))
-          (drawn_whole mid l seed asks.1)
-
-      other : IsWhole (get_or before i None) → i < length before → IsWhole (get_or (before ++ seed ∷ []) i None)
-      other whole less = subst IsWhole (sym (get_or_append_left before (seed ∷ []) None i less)) whole
-
 said_lawful : (k : Mechanism) (kept : Client) (r : Result SaidText Refusal) → IsOk r
     → ((said : SaidText) → r ≡ Ok said → IsLawfulClient k said.next) → IsLawfulClient k (said_or kept r)
 said_lawful k kept (Ok said) ok each = each said refl
@@ -65,7 +25,7 @@ said_lawful k kept (Err refusal) ok each = absurd (let e : false ≡ true = ok i
 
 module _ (k : Mechanism) (fan : Fan) (law : IsLawfulMechanism k) (all : AllSay k fan) (lawful : AreLawful k fan.rows)
     (whole : (n : ℕ) → n < length fan.list → IsWhole (fan_seed fan n)) where
-  one_lawful : (n : ℕ) → n < length fan.list → (row : Row Client) → fan_row fan n ≡ Some row
+  pub one_lawful : (n : ℕ) → n < length fan.list → (row : Row Client) → fan_row fan n ≡ Some row
       → IsLawfulClient k (said_next k fan.text (kept_of (fan_row fan n)) (fan_seed fan n))
   one_lawful n lt row is =
       let says = all.say n lt in

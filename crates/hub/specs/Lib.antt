@@ -4,3 +4,4 @@ pub mod Beginning
 pub mod Receiving
 pub mod Lines
 pub mod Plays
+pub mod Leaving

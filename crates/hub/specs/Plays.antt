@@ -1,12 +1,8 @@
 -- What a hub's fan comes to, on a disk that stops meanwhile.
-use Rattle.std.specs.Prelude.{Bool, Err, List, Ok, Option, Result, if◌then◌else◌, nat_le, ℕ, ⊤, ◌≡◌, ◌≤◌, ◌||◌}
-use Rattle.book.specs.Changing.{change_calls}
+use Rattle.std.specs.Prelude.{Bool, Err, List, Ok, Option, Result, nat_le, ℕ, ⊤, ◌+◌, ◌≡◌, ◌≤◌, ◌||◌}
 use Rattle.book.specs.Fanning.{AsksInTurn}
-use Rattle.book.specs.Fans.{AreAsked, Fan, fan_of, fanned_rows, fanned_store, fanned_writes}
-use Rattle.book.specs.Rows.{stored}
+use Rattle.book.specs.Fans.{AreAsked}
 use Rattle.book.specs.declared.refusals.FanRefusal.TheVariants.{Peer as PeerOf}
-use Rattle.book_model.specs.Rows.{Rows}
-use Rattle.book_store.specs.Store.{BookStore}
 use Rattle.client.specs.Beginning.{HasPair}
 use Rattle.client.specs.declared.refusals.SayRefusal.{SayRefusal}
 use Rattle.client.specs.declared.refusals.SayRefusal.TheVariants.{NoPair as SaysNoPair, Refused}
@@ -17,59 +13,38 @@ use Rattle.dr_ports.specs.Ports.{Rose, appended}
 use Rattle.dr_ports.specs.States.{SinkState}
 use Rattle.dr_ports.specs.Writing.{TookBeginning}
 use Rattle.kem_laws.specs.Mechanism.{Mechanism}
-use Rattle.pages.specs.Stops.{put_took}
-use Rattle.session_model.specs.Clients.{Client}
+use Rattle.pages.specs.Stops.{put_took, puts, retires}
 use Rattle.session_model.specs.declared.answer.Refusal.{Refusal}
 use Rattle.session_model.specs.declared.answer.Refusal.TheVariants.{NoPair as HasNoPair}
-use Rattle.hub.specs.Lines.{fan_lines}
+use Rattle.hub.specs.Lines.{told_lines}
 use Rattle.hub.specs.Peers.{LacksPair, first_draws, hello, hub_begin, hub_rows, places}
 use Rattle.hub.specs.declared.playing.FanPlayError.{FanPlayError}
 use Rattle.hub.specs.declared.playing.FanPlayError.TheVariants.{Memory, NoPair, Peer, Write}
 
--- ---- the fan
+-- ---- the fan, on a disk that stops once this many writes and syncs have passed, and then crashes
 
--- The store of a hub before its fan, and the seeds with which all its sessions say the text: each
--- was drawn in its turn.
-pub record HubFan (k : Mechanism) (peers : ℕ) : Type 0 where
-  pub store : BookStore
-  pub holds : store.held ≡ stored (hub_rows k peers)
+-- all sessions say the text with these seeds, each of which was drawn in its turn
+pub record AllAreAsked (k : Mechanism) (peers : ℕ) : Type 0 where
   pub seeds : List (Option Key32)
   pub left : Turning
   pub asked : AreAsked turning_at k hello (hub_rows k peers) (places peers) (first_draws peers)
       peers left seeds
 
-abbrev pub fan_in : (k : Mechanism) (peers : ℕ) → HubFan k peers → Fan
-fan_in k peers hub = fan_of (hub_rows k peers) (places peers) hello hub.seeds
+-- So many writes and syncs it makes: a page of each record is written, and one is wiped.
+abbrev pub fan_calls : ℕ → ℕ
+fan_calls peers = puts peers + retires peers
 
--- how many pages it writes, and how many writes and syncs it makes
-abbrev pub hub_writes : (k : Mechanism) (peers : ℕ) → HubFan k peers → ℕ
-hub_writes k peers hub = fanned_writes k (fan_in k peers hub) hub.store peers
-
-abbrev pub hub_calls : (k : Mechanism) (peers : ℕ) → HubFan k peers → ℕ
-hub_calls k peers hub =
-    change_calls (hub_writes k peers hub) (fanned_store k (fan_in k peers hub) hub.store peers)
-
--- ---- on a disk that stops once this many writes and syncs have passed, and crashes in this way
-
--- it is acknowledged exactly where all pass
-abbrev pub is_acknowledged : (k : Mechanism) (peers after : ℕ) → HubFan k peers → Bool
-is_acknowledged k peers after hub = nat_le (hub_calls k peers hub) after
+-- it is acknowledged exactly where all of them pass
+abbrev pub is_answered : (peers after : ℕ) → Bool
+is_answered peers after = nat_le (fan_calls peers) after
 
 -- whether all sessions say the text, or none does
-abbrev pub has_happened : (k : Mechanism) (peers after : ℕ) → Mode → HubFan k peers → Bool
-has_happened k peers after mode hub =
-    is_acknowledged k peers after hub || put_took (hub_writes k peers hub) after mode
+abbrev pub is_told : (peers after : ℕ) → Mode → Bool
+is_told peers after mode = is_answered peers after || put_took peers after mode
 
--- the rows that are left
-abbrev pub rows_left : (k : Mechanism) (peers after : ℕ) → Mode → HubFan k peers → Rows Client
-rows_left k peers after mode hub =
-    if has_happened k peers after mode hub then fanned_rows k (fan_in k peers hub) peers
-    else hub_rows k peers
-
--- the lines: as the fan ended, and what the peers answer to what is left
-abbrev pub hub_lines : (k : Mechanism) (peers after : ℕ) → Mode → HubFan k peers → List ℕ
-hub_lines k peers after mode hub =
-    fan_lines k peers (is_acknowledged k peers after hub) (rows_left k peers after mode hub)
+-- the lines
+abbrev pub fan_told : (peers after : ℕ) → Mode → List ℕ
+fan_told peers after mode = told_lines peers (is_answered peers after) (is_told peers after mode)
 
 -- ---- a refusal
 
@@ -94,14 +69,7 @@ pub record IsRefusedAt (k : Mechanism) (peers at : ℕ) (refusal : Refusal) : Ty
 
 -- ---- what it comes to
 
--- what is left of the hub
-pub record IsLeftOf (k : Mechanism) (peers after : ℕ) (mode : Mode)
-    (acknowledged : Bool) (rows : Rows Client) : Type 0 where
-  pub hub : HubFan k peers
-  pub acknowledged_is : acknowledged ≡ is_acknowledged k peers after hub
-  pub rows_are : rows ≡ rows_left k peers after mode hub
-
--- or why nothing is
+-- why nothing is left of the hub
 abbrev pub StopsFan : Mechanism → ℕ → FanPlayError → Type 0
 StopsFan k peers (Peer at refusal) = IsRefusedAt k peers at refusal
 StopsFan k peers Memory = ⊤
@@ -111,12 +79,12 @@ StopsFan k peers _ = ⊥
 -- or a beginning of them.
 abbrev pub PlaysFan : Mechanism → ℕ → ℕ → Mode → SinkState → SinkState → Result Unit FanPlayError
     → Type 0
-PlaysFan k peers after mode old new (Ok u) = (hub : HubFan k peers)
+PlaysFan k peers after mode old new (Ok u) = AllAreAsked k peers
     × ((number : ℕ) → 1 ≤ number → number ≤ peers → HasPair k (hub_begin number))
-    × (new.taken ≡ appended old.taken (hub_lines k peers after mode hub))
+    × (new.taken ≡ appended old.taken (fan_told peers after mode))
     × (new.faults ≡ old.faults)
-PlaysFan k peers after mode old new (Err Write) = (hub : HubFan k peers)
-    × TookBeginning old.taken new.taken (hub_lines k peers after mode hub)
+PlaysFan k peers after mode old new (Err Write) = AllAreAsked k peers
+    × TookBeginning old.taken new.taken (fan_told peers after mode)
     × Rose old.faults new.faults
 PlaysFan k peers after mode old new (Err NoPair) = LacksPair k peers × (new ≡ old)
 PlaysFan k peers after mode old new (Err (Peer at refusal)) =

@@ -2,14 +2,16 @@
 
 ghost use Rattle.std.specs.Prelude.{◌≡◌, ◌≤◌};
 ghost use Rattle.kem_laws.specs.Open.{open_kem};
+ghost use Rattle.hub.specs.Leaving.{PlaysOver};
 ghost use Rattle.hub.specs.Plays.{PlaysFan};
 
 use crate::hub::Hub;
 use crate::lines::{Lines, put_lines};
 use crate::peers::PEERS_LIMIT;
 use dr_disk::Mode;
+use dr_model::{acts_follow, said_is_opened};
 use dr_ports::{Failed, Sink, write_all};
-use kem_laws::{Kem, OpenKem};
+use kem_laws::{Kem, OpenKem, laws};
 use session_model::Refusal;
 use std::alloc::Global;
 
@@ -36,9 +38,12 @@ fn play<K: Kem, O: Sink>(
 ) -> Result<(), FanPlayError>
     requires first { 1 ≤ peers }
     requires few { peers ≤ PEERS_LIMIT }
-    ensures plays { PlaysFan K.mechanism peers after mode (O.at out.old) (O.at out.new) result }
+    ensures plays { PlaysOver K.mechanism peers after mode (O.at out.old) (O.at out.new) result }
     ensures later { (O.at out.old).faults ≤ (O.at out.new).faults }
 {
+    laws::<K>();
+    acts_follow();
+    said_is_opened();
     let hub = match Hub::<K>::new(alloc, peers) {
         Ok(hub) => hub,
         Err(error) => return Err(error),
@@ -62,9 +67,9 @@ fn play<K: Kem, O: Sink>(
 /// First to each of them, with keys of 32 bytes of the peer's number. Its disk stops once this many
 /// writes and syncs of the fan have passed, crashes in this way, and is opened again.
 ///
-/// It writes `answered`, or where the disk stopped `before` or `after`, as the hub is recovered;
-/// and for each peer what it answers to the packet that the hub has for it then, `p1 opened 1.1`,
-/// or `p1 nothing`.
+/// It writes `answered`, or where the disk stopped `before` or `after`, as the hub is recovered.
+/// Then comes what each peer answers to what the hub has for it: `p1 opened 1.1` to its packet,
+/// where the hub has said the text, or else `p1 nothing`.
 pub fn fan_play<O: Sink>(
     alloc: Global,
     peers: u32,
@@ -74,10 +79,12 @@ pub fn fan_play<O: Sink>(
 ) -> Result<(), FanPlayError>
     requires first { 1 ≤ peers }
     requires few { peers ≤ PEERS_LIMIT }
-    // Exactly these lines, in all of which the fan is a say of all peers or of none; or nothing is
-    // written, for this reason, or a beginning of them.
+    // Exactly these lines, which these numbers alone tell: the fan makes two calls a peer and eight
+    // more, and is a say of all peers or of none; or nothing is written, for this reason, or a
+    // beginning of them.
     ensures plays { PlaysFan open_kem peers after mode (O.at out.old) (O.at out.new) result }
     ensures later { (O.at out.old).faults ≤ (O.at out.new).faults }
 {
+    laws::<OpenKem>();
     play::<OpenKem, O>(alloc, peers, after, mode, out)
 }

@@ -6,8 +6,9 @@ ghost use Rattle.book_store.specs.Layout.{HasBook};
 ghost use Rattle.dr_disk.specs.MemoryDisks.{state_of};
 ghost use Rattle.session_model.specs.Clients.{Client};
 ghost use Rattle.hub.specs.Held.{AreLawful, LeavesRows, LeavesSessions};
+ghost use Rattle.hub.specs.Leaving.{IsLeftOf};
 ghost use Rattle.hub.specs.Peers.{hub_rows};
-ghost use Rattle.hub.specs.Plays.{IsLeftOf, IsRefusalOf, IsSaidRefusal, StopsFan};
+ghost use Rattle.hub.specs.Plays.{IsRefusalOf, IsSaidRefusal, StopsFan};
 ghost use Rattle.hub.specs.declared.playing.FanPlayError.TheVariants.{Memory};
 
 use crate::draws::hub_draws;

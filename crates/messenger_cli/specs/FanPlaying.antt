@@ -5,7 +5,7 @@ use Rattle.kem_laws.specs.Open.{open_kem}
 use Rattle.session_model.specs.declared.answer.Refusal.TheVariants.{NoPair}
 use Rattle.scripts.specs.Words.{mode_read}
 use Rattle.hub.specs.Peers.{LacksPair, peer_name}
-use Rattle.hub.specs.Plays.{HubFan, IsRefusedAt, hub_lines}
+use Rattle.hub.specs.Plays.{AllAreAsked, IsRefusedAt, fan_told}
 use Rattle.hub.specs.declared.peers.TheConstants.{PEERS_LIMIT}
 use Rattle.endings.specs.PeerNames.{shown_name}
 use Rattle.endings.specs.declared.ending.Ending.{Ending}
@@ -16,11 +16,11 @@ abbrev pub fan_mode : ℕ → List ℕ → Option Mode
 fan_mode peers word =
     if nat_le 1 peers && nat_le peers PEERS_LIMIT then mode_read word else None
 
--- The lines are those of a hub's fan. Without memory, where a key gives no first pair, or where a
--- session doesn't say the text, there are none.
+-- The lines are those of a hub's fan, which these numbers alone tell. Without memory, where a key
+-- gives no first pair, or where a session doesn't say the text, there are none.
 abbrev pub PlaysFanSo : ℕ → ℕ → Mode → Ending → List ℕ → Type 0
 PlaysFanSo peers calls mode Done lines =
-    (hub : HubFan open_kem peers) × (lines ≡ hub_lines open_kem peers calls mode hub)
+    AllAreAsked open_kem peers × (lines ≡ fan_told peers calls mode)
 PlaysFanSo peers calls mode NoMemory lines = lines ≡ []
 PlaysFanSo peers calls mode (Refused refusal) lines =
     (lines ≡ []) × (refusal ≡ NoPair) × LacksPair open_kem peers

@@ -12,7 +12,7 @@ mod FromLawful
 mod KeptToLawful
 mod ToLawful
 mod RecordLaw
-mod RelayGrammar
+pub mod RelayGrammar
 mod OtherTexts
 mod Places
-mod Sizes
+pub mod Sizes

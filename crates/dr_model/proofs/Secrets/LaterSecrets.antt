@@ -85,7 +85,7 @@ arrived_by : (c : Conversation) (v : View) (p q : Position) (rest : List Positio
 arrived_by c v p q rest true is has later opened = subst (HasArrived c v) (is_at-same p q is) has
 arrived_by c v p q rest false is has later opened = later (sym (ap (λ b. b || list_any (is_at p) rest) is) ∙ opened)
 
-has_arrived : (c : Conversation) (v : View) (p : Position) (ps : List Position) → All (HasArrived c v) ps
+pub has_arrived : (c : Conversation) (v : View) (p : Position) (ps : List Position) → All (HasArrived c v) ps
     → list_any (is_at p) ps ≡ true → HasArrived c v p
 has_arrived c v p [] all opened = cc
 has_arrived c v p (q ∷ rest) all opened =

@@ -1,5 +1,5 @@
 -- How many elements of a list pass a test, with one more; how often a position was opened.
-use Rattle.std.proofs.Common.{◌≡◌, ℕ, ◌+◌, ◌≤◌, Bool, true, false, List, [], ◌∷◌, ◌++◌, count_by, refl, ◌∙◌, ap, subst, arith, cond}
+use Rattle.std.proofs.Common.{◌≡◌, ℕ, ◌+◌, ◌≤◌, Bool, true, false, List, [], ◌∷◌, ◌++◌, count_by, refl, sym, ◌∙◌, ap, subst, arith, cond}
 use Rattle.std.specs.List.{list_any}
 use Rattle.std.specs.Prelude.{◌||◌}
 use Rattle.std.proofs.lemmas.List.Sums.{sum_by-cons, sum_by_push}
@@ -17,6 +17,17 @@ pub count_by-none : {A : Type 0} (p : A → Bool) (xs : List A) → list_any p x
 count_by-none p [] h = refl
 count_by-none p (x ∷ xs) h =
     sum_by-cons (λ y. cond (p y) 1 0) x xs ∙ none_step (p x) (list_any p xs) (count_by p xs) (count_by-none p xs) h
+
+-- what is there is counted once at least
+some_step : (a r : Bool) (n : ℕ) → (r ≡ true → 1 ≤ n) → (a || r) ≡ true → 1 ≤ cond a 1 0 + n
+some_step true r n some h = omega arith
+some_step false r n some h = let e : 1 ≤ n = some h in omega arith
+
+pub count_some : {A : Type 0} (p : A → Bool) (xs : List A) → list_any p xs ≡ true → 1 ≤ count_by p xs
+count_some p [] h = absurd (let e : false ≡ true = h in cc)
+count_some p (x ∷ xs) h =
+    subst (λ n. 1 ≤ n) (sym (sum_by-cons (λ y. cond (p y) 1 0) x xs))
+    (some_step (p x) (list_any p xs) (count_by p xs) (count_some p xs) h)
 
 -- one more is counted if it passes the test
 pub count_push : {A : Type 0} (p : A → Bool) (xs : List A) (x : A) (a : Bool) → p x ≡ a

@@ -3,7 +3,7 @@ use Rattle.dr_disk.specs.declared.call.Mode.{Mode}
 use Rattle.endings.proofs.Closing.{ends_behind, ends_cut}
 use Rattle.endings.specs.declared.ending.Ending.TheVariants.{Done}
 use Rattle.hub.proofs.Placing.{places_long}
-use Rattle.hub.specs.Plays.{PlaysFan, hub_lines}
+use Rattle.hub.specs.Plays.{PlaysFan, fan_told}
 use Rattle.hub.specs.declared.playing.FanPlayError.{FanPlayError}
 use Rattle.hub.specs.declared.peers.TheConstants.{PEERS_LIMIT}
 use Rattle.kem_laws.specs.Open.{open_kem}
@@ -21,7 +21,7 @@ name_at-name-requires g c =
 pub returns-in-Ok-clause-runs : goal.returns-in-Ok-clause-runs
 returns-in-Ok-clause-runs g c =
     let played = c.in-Ok.ensures.plays in
-    let lines = hub_lines open_kem c.args.peers c.args.calls c.in-Some.mode played.0 in
+    let lines = fan_told c.args.peers c.args.calls c.in-Some.mode in
     record {
       ending = Done;
       lines = lines;
@@ -37,7 +37,7 @@ returns-in-Err-Write-clause-runs g c =
     PlaysFan open_kem c.args.peers c.args.calls c.in-Some.mode (g.O.Sink.at c.args.out.now) (g.O.Sink.at c.fan_play.new.out)
     (Err error) in
     let played = subst Plays c.in-Err-Write.field-0-is c.in-Err-Write.ensures.plays in
-    let lines = hub_lines open_kem c.args.peers c.args.calls c.in-Some.mode played.0 in
+    let lines = fan_told c.args.peers c.args.calls c.in-Some.mode in
     record {
       ending = Done;
       lines = lines;

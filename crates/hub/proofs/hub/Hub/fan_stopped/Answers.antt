@@ -4,7 +4,8 @@ use Rattle.book.specs.declared.refusals.FanRefusal.{FanRefusal}
 use Rattle.book.specs.declared.refusals.FanRefusal.TheVariants.{Nobody, Peer as PeerOf, StoreFault as Faulted}
 use Rattle.client.specs.declared.refusals.SayRefusal.{SayRefusal}
 use Rattle.hub.specs.Held.{IsHeld}
-use Rattle.hub.specs.Plays.{IsLeftOf, IsRefusalOf, IsRefusedAt}
+use Rattle.hub.specs.Leaving.{IsLeftOf}
+use Rattle.hub.specs.Plays.{IsRefusalOf, IsRefusedAt}
 use Rattle.hub.proofs.Ended.{acknowledged_of, fans_as, if_left, leaves_of, left_as, listed_as, not_nobody, refused_at}
 use Rattle.hub.proofs.hub.Hub.fan_stopped.Goals as goal
 
@@ -15,7 +16,8 @@ returns-in-Ok-fan-clause-left g c =
     c.in-Ok.draws c.fan.new.draws c.self.inside.book c.everyone-list.result c.stop_after.new.self (Ok tt) (Ok tt) c.self.view_is
     c.everyone-list.ensures.list c.stop_after.ensures refl c.in-Ok-fan.ensures in
     acknowledged_of g.K.Kem.mechanism c.args.peers c.args.after c.args.self c.fan.new.self c.self.inside.disk c.fan.new.disk
-    c.in-Ok.draws c.fan.new.draws c.args.mode c.requires.rows held c.in-Ok.ensures fans c.go_on.ensures.told
+    c.in-Ok.draws c.fan.new.draws c.args.mode c.requires.rows held c.in-Ok.ensures c.requires.count c.requires.lawful fans
+    c.go_on.ensures.told
 
 pub recovered-requires-clause-leaves : goal.recovered-requires-clause-leaves
 recovered-requires-clause-leaves g c =

@@ -1,0 +1,6 @@
+pub mod Drawn
+pub mod SaidIn
+pub mod Led
+pub mod Reached
+pub mod Stood
+pub mod FannedOut

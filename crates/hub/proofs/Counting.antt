@@ -1,0 +1,5 @@
+pub mod Texts
+pub mod Differing
+pub mod Writes
+pub mod Drops
+pub mod Calls
