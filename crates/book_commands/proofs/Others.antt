@@ -97,7 +97,7 @@ module _ {X : Type 0} (state : X → DiskState) (k : Mechanism) (written : Reads
   pub shows_leave : (shows : Client → List ℕ) (ending : Ending) (lines : List ℕ)
       → ShownAt (name_place k name) state k shows start now ending lines → OthersStand k name (state start) (state now)
   shows_leave shows _ _ (wasnt_opened refusal why leaves) = as_read_leaves k written name (state start) (state now) leaves
-  shows_leave shows _ _ (was_shown kept is leaves) = either_leaves k written name (state start) (state now) kept kept leaves.either
+  shows_leave shows _ _ (was_shown kept is behind leaves) = either_leaves k written name (state start) (state now) kept kept leaves.either
 
   pub begins_leave : (begin : Begin) (ending : Ending) (lines : List ℕ) → BeginsUnder state k name begin start now ending lines
       → OthersStand k name (state start) (state now)

@@ -5,10 +5,12 @@ use Rattle.dr_disk.specs.State.{DiskState, OnSeen}
 use Rattle.endings.specs.declared.ending.Ending.{Ending}
 use Rattle.endings.specs.declared.ending.Ending.TheVariants.{NoName}
 use Rattle.kem_laws.specs.Mechanism.{Mechanism}
+use Rattle.book_store.specs.Opened.{IsBookReadAtRest}
 use Rattle.book_store.specs.Reading.{record_under}
 use Rattle.book_store.specs.declared.errors.BookOpenError.{BookOpenError}
 use Rattle.book_store.specs.declared.layout.TheConstants.{BOOK_ROWS}
 use Rattle.client.specs.Cells.{Cell}
+use Rattle.book.specs.Opening.{IsBookReadNewest}
 use Rattle.book.specs.RowCells.{opened_row_cell}
 use Rattle.command_lines.specs.Places.{Place}
 use Rattle.book_commands.specs.Opening.{IsBookUnopened, IsRowAtRest, ending_of_open_book}
@@ -42,6 +44,7 @@ abbrev pub name_place : Mechanism → List ℕ → Place
 name_place k name = record {
   cell = name_cell k name;
   rests = λ kept. IsRowAtRest name (Some kept);
+  read_at_rest = λ disk. IsBookReadAtRest BOOK_ROWS disk × IsBookReadNewest BOOK_ROWS disk;
   Refusal = Missing;
   ending = ending_of_missing;
   refused = λ state start now missing. IsMissing k name state start now missing;

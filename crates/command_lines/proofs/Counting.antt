@@ -94,7 +94,7 @@ module _ {X : Type 0} (place : Place) (tells : TellsRefusals place) (state : X �
   pub shown_came : (ends : Client → Ending) (shows : Client → List ℕ) (ending : Ending) (lines : List ℕ)
       → ToldAt place state k ends shows start now ending lines → code_of ending ≡ 0 → IsQuiet (state start) (state now)
   shown_came ends shows _ _ (wasnt_opened refusal why leaves) e = absurd (tells refusal e)
-  shown_came ends shows _ _ (was_shown kept is leaves) e = leaves.quiet
+  shown_came ends shows _ _ (was_shown kept is behind leaves) e = leaves.quiet
 
   pub show_counts : (ends : Client → Ending) (shows : Client → List ℕ) (old new : SinkState) (code : ℕ)
       → Runs (RunsTellAt place state k ends shows start now) old new code → old.faults ≤ new.faults

@@ -2,7 +2,7 @@
 use Rattle.std.proofs.Common.{List, Some, ap, inl, inr, refl, subst, sym, ℕ, ⊎_elim, ◌∙◌, ◌≡◌, ◌⊎◌}
 use Rattle.std.specs.Prelude.{option_map}
 use Rattle.dr_base.specs.declared.position.Side.{Side}
-use Rattle.dr_disk.specs.Spans.{IsQuiet, Span}
+use Rattle.dr_disk.specs.Spans.{HavePassed, IsQuiet, Span}
 use Rattle.dr_disk.specs.State.{Always, DiskState, IsLawful}
 use Rattle.dr_disk.proofs.Steps.{spans, stays, widen}
 use Rattle.dr_model.specs.Machines.Worlds.{World}
@@ -14,7 +14,7 @@ use Rattle.client.specs.InWorlds.{CellStandsFor, CellStandsForEither, IsBetweenI
 use Rattle.client.specs.Keepings.{Keeping, cell_of}
 use Rattle.client.specs.Opening.{IsAsReadInCell, IsEntryOrAsReadInCell, StandsInOpening}
 use Rattle.client.specs.Outcomes.{IsReplacingInCell}
-use Rattle.command_lines.specs.Places.{IsOpenedAt, IsReadOrEitherInCell, LeavesEitherInCell, LeavesPlaceAtRest, Place, RunsOnInCell, StandsForOneInCell, StaysSoundInCell, is_after, is_before, is_read}
+use Rattle.command_lines.specs.Places.{IsOpenedAt, IsReadOrEitherInCell, LeavesEitherInCell, LeavesPlaceAtRest, Place, RunsOnInCell, StandsForOneInCell, StandsOpen, StaysSoundInCell, is_after, is_before, is_read}
 
 -- What keeps a session at a place: its own cell has the record that the place has, and leaves what lies outside of that, too.
 pub record Fits {S : Type 0} (place : Place) (keeping : Keeping S) (s : S) : Type 1 where
@@ -89,6 +89,17 @@ only_opened cell k side w start now opens opening reads = record {
 }
 
 -- ---- what keeps a session there
+
+-- it stands open, before anything else is done
+pub stood_open : {S : Type 0} (place : Place) (keeping : Keeping S) (k : Mechanism) (s : S) (start opened : DiskState)
+    → Fits place keeping s → IsOpenedAt place keeping k s start opened → (place.read_at_rest start → HavePassed 1 start opened)
+    → StandsOpen place k (keeping.kept s) start opened
+stood_open place keeping k s start opened fits is counted = record {
+  rests = fits.rests s opened refl is.ready;
+  alike = is.alike;
+  quiet = is.quiet;
+  one_sync = counted;
+}
 
 module _ {S X : Type 0} (place : Place) (keeping : Keeping S) (state : X → DiskState) (k : Mechanism) (start mid now : X)
     (lawful : IsLawful (state now)) (s : S) (fits : Fits place keeping s) (opened : IsOpenedAt place keeping k s (state start) (state mid))

@@ -1,7 +1,7 @@
 -- A place on a disk where a command works, and what it holds before the command and after it.
 use Rattle.std.specs.Prelude.{List, None, Ok, Some, option_map, ℕ, ◌⊎◌, ◌≡◌}
 use Rattle.dr_base.specs.declared.position.Side.{Side}
-use Rattle.dr_disk.specs.Spans.{IsQuiet, Span}
+use Rattle.dr_disk.specs.Spans.{HavePassed, IsQuiet, Span}
 use Rattle.dr_disk.specs.State.{Always, DiskState}
 use Rattle.dr_model.specs.Machines.Worlds.{World}
 use Rattle.endings.specs.declared.ending.Ending.{Ending}
@@ -17,6 +17,8 @@ pub record Place : Type 1 where
   pub cell : Cell
   -- a disk is at rest there for what is kept
   pub rests : Client → DiskState → Type 0
+  -- what a read gives lies at rest there, and in the newest version
+  pub read_at_rest : DiskState → Type 0
   -- why no session is found there, how a command ends then, and what has happened
   pub Refusal : Type 0
   pub ending : Refusal → Ending
@@ -70,6 +72,15 @@ pub record LeavesPlaceAtRest (place : Place) (k : Mechanism) (before after : Cli
   pub either : LeavesEitherInCell place.cell k before after start now
   pub rests : place.rests after now
   pub quiet : IsQuiet start now
+
+-- A session was opened: all is at rest for what is kept, each image is as what was read, and no
+-- call failed. Where it lay at rest before, one sync is all that was called but reads.
+pub record StandsOpen (place : Place) (k : Mechanism) (kept : Client) (start opened : DiskState)
+    : Type 0 where
+  pub rests : place.rests kept opened
+  pub alike : Always (IsAsReadInCell place.cell k start) opened
+  pub quiet : IsQuiet start opened
+  pub one_sync : place.read_at_rest start → HavePassed 1 start opened
 
 -- ---- in worlds
 

@@ -1,5 +1,5 @@
 -- What a command that shows what a session keeps comes to, before its last line.
-use Rattle.std.specs.Prelude.{List, [], ℕ}
+use Rattle.std.specs.Prelude.{List, [], ℕ, ◌≡◌}
 use Rattle.dr_base.specs.declared.position.Side.{Side}
 use Rattle.dr_disk.specs.State.{DiskState}
 use Rattle.dr_model.specs.Machines.WorldSides.{kept_in}
@@ -10,7 +10,17 @@ use Rattle.endings.specs.declared.ending.Ending.TheVariants.{Done}
 use Rattle.kem_laws.specs.Mechanism.{Mechanism}
 use Rattle.session_model.specs.Clients.{Client}
 use Rattle.client.specs.Opening.{CellReadsAsSide}
-use Rattle.command_lines.specs.Places.{LeavesAsReadInCell, LeavesPlaceAtRest, Place, ReadsAsKeptInCell, RunsOnInCell}
+use Rattle.command_lines.specs.Places.{LeavesAsReadInCell, LeavesPlaceAtRest, Place, ReadsAsKeptInCell, RunsOnInCell, StandsOpen}
+
+-- The moment behind which all is shown: the session is open, and no call on the disk comes after it.
+-- The sink is as it was at entry then, since the lines are counted from there (`Runs`). The disk is a
+-- value of the caller's own type, as those of `client` between two replies are: so the moment is one
+-- at which such a disk stood.
+pub record ShowsBehind (place : Place) {X : Type 0} (state : X → DiskState) (k : Mechanism)
+    (kept : Client) (start now : X) : Type 0 where
+  pub opened : X
+  pub stands : StandsOpen place k kept (state start) (state opened)
+  pub still : now ≡ opened
 
 -- No session was found, or what was read is shown: the lines, and how the command ends with that.
 pub data ToldAt (place : Place) {X : Type 0} (state : X → DiskState) (k : Mechanism)
@@ -20,6 +30,7 @@ pub data ToldAt (place : Place) {X : Type 0} (state : X → DiskState) (k : Mech
       → LeavesAsReadInCell place.cell k (state start) (state now)
       → ToldAt place state k ends shows start now (place.ending refusal) []
   was_shown : (kept : Client) → ReadsAsKeptInCell place.cell k (state start) kept
+      → ShowsBehind place state k kept start now
       → LeavesPlaceAtRest place k kept kept (state start) (state now)
       → ToldAt place state k ends shows start now (ends kept) (shows kept)
 

@@ -20,7 +20,7 @@ use Rattle.client.specs.Moments.{IsAmongKnown, Known}
 use Rattle.client.proofs.Spending.{taken_used}
 use Rattle.command_lines.specs.Asking.{SaysContent, with_seed, without_seed}
 use Rattle.command_lines.specs.InWorlds.{goes_on, is_in_doubt, stays_refused, stays_undrawn, stays_unopened}
-use Rattle.session_commands.specs.WholeRuns.{Command, Ran, acted, asked_by, showed, stayed, synced, was_cut_acting, was_cut_showing, was_cut_staying, was_cut_syncing, was_left_alone}
+use Rattle.session_commands.specs.WholeRuns.{Command, Ran, acted, asked_by, showed, stayed, synced, was_cut_acting, was_cut_showing, was_cut_shown, was_cut_staying, was_cut_synced, was_cut_syncing, was_left_alone}
 use Rattle.conversation.specs.Answered.{WasAnswered}
 use Rattle.dr_model.specs.Theorems.Spoken.{IsSpoken}
 use Rattle.dr_model.proofs.Saying.Spoken.{spoken}
@@ -72,10 +72,17 @@ module _ {X W : Type 0} (state : X → DiskState) (draws : W → DrawsState) (k 
   answered_in before after
       (was_cut_showing known w which shows now ending lines runs leaves) asked answer is =
       absurd is
+  answered_in before after
+      (was_cut_shown known w which shows opened ending lines runs alone) asked answer is =
+      absurd is
   answered_in before after (synced known w which kept replies result fair runs) asked answer is =
       absurd is
   answered_in before after
       (was_cut_syncing known w which kept replies now result fair runs leaves) asked answer is =
+      absurd is
+  answered_in before after
+      (was_cut_synced known w which kept replies opened now result fair runs behind leaves) asked
+      answer is =
       absurd is
   answered_in before after (stayed known w which on) asked answer is = absurd is
   answered_in before after (was_cut_staying known w which now on leaves) asked answer is = absurd is

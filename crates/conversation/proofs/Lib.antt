@@ -5,6 +5,8 @@ pub mod Joined
 pub mod Lasting
 pub mod Held
 pub mod Honest
+pub mod Posting
+pub mod HandedOut
 pub mod Answering
 pub mod Said
 pub mod Counts

@@ -25,7 +25,7 @@ use Rattle.command_lines.specs.InWorlds.{goes_on, is_in_doubt, stays_refused, st
 use Rattle.session_commands.specs.Acting.{RunsIn}
 use Rattle.command_lines.specs.Showing.{shows_nothing, shows_world}
 use Rattle.session_commands.specs.Showing.{ShowsIn}
-use Rattle.session_commands.specs.WholeRuns.{Ran, acted, asked_by, showed, stayed, synced, was_cut_acting, was_cut_showing, was_cut_staying, was_cut_syncing, was_left_alone}
+use Rattle.session_commands.specs.WholeRuns.{Ran, acted, asked_by, showed, stayed, synced, was_cut_acting, was_cut_showing, was_cut_shown, was_cut_staying, was_cut_synced, was_cut_syncing, was_left_alone}
 use Rattle.session_commands.specs.Syncing.{broken_of, made_of}
 use Rattle.session_commands.proofs.KnownWorlds.{one_has}
 
@@ -81,7 +81,7 @@ module _ (k : Mechanism) (side : Side) where
           (front_acted k [] side w (made_of replies) (broken_of replies)
           (subst (AreUnforged k [] side w) (sym whole) fair))
 
-      by_syncing : (result : Result More SyncFault)
+      pub by_syncing : (result : Result More SyncFault)
           → IsActed k side known.last (synced_known k side w replies result).last
       by_syncing (Ok _) = by_course
       by_syncing (Err (Closed call)) = by_course
@@ -106,9 +106,14 @@ module _ {X W : Type 0} (state : X → DiskState) (draws : W → DrawsState) (k 
       by_showing k side known w which are (state a) (state b) shows ending lines runs
   ran_acts before after (was_cut_showing known w which shows now ending lines runs leaves) are =
       acted_none k side known.last
+  ran_acts before after (was_cut_shown known w which shows opened ending lines runs alone) are =
+      by_showing k side known w which are (state a) (state opened) shows ending lines runs
   ran_acts before after (synced known w which kept replies result fair runs) are =
       by_syncing k side known w which are (state a) (state b) replies fair result
   ran_acts before after (was_cut_syncing known w which kept replies now result fair runs leaves) are = acted_none k side known.last
+  ran_acts before after
+      (was_cut_synced known w which kept replies opened now result fair runs behind leaves) are =
+      among_acted k side known w which are
   ran_acts before after (stayed known w which on) are = acted_none k side known.last
   ran_acts before after (was_cut_staying known w which now on leaves) are =
       acted_none k side known.last

@@ -6,7 +6,7 @@
 //! `session_commands`: no made-up packet carries a right tag. `joints` says how far both have come
 //! at each moment.
 
-ghost use Rattle.std.specs.Prelude.{◌≡◌, ◌≤◌, ℕ, Contains, List, Some, slice_get};
+ghost use Rattle.std.specs.Prelude.{◌≡◌, ◌<◌, ◌≤◌, ◌+◌, ℕ, Contains, List, Some, slice_get};
 ghost use Rattle.boxes.specs.Posts.{Post};
 ghost use Rattle.dr_base.specs.declared.position.Side.{Side};
 ghost use Rattle.dr_base.specs.declared.position.Side.TheVariants.{First, Second};
@@ -17,10 +17,11 @@ ghost use Rattle.dr_model.specs.Theorems.LawfulWorlds.{IsLawfulWorld};
 ghost use Rattle.kem_laws.specs.Mechanism.{IsLawfulMechanism, Mechanism};
 ghost use Rattle.client.specs.Moments.{IsAmongKnown};
 ghost use Rattle.session_commands.specs.WholeRuns.{AreRun};
+ghost use Rattle.conversation.specs.HandedOut.{IsPacketOf, WasHandedOut};
 ghost use Rattle.conversation.specs.Joints.{IsConversation, Joint, known_in};
 ghost use Rattle.conversation.specs.Kept.{HoldsTexts, StandsLater};
 
-pub use crate::meeting::{any_run_counts, begins, goes_on, whole_talk};
+pub use crate::meeting::{any_run_counts, any_run_hands_out, begins, goes_on, whole_talk};
 use client::laws::client_grounds;
 use dr_disk::Disk;
 use dr_model::headline;
@@ -108,4 +109,37 @@ pub fn real_packets<D: Disk, E: Disk, W: Draws>(first: &[D], second: &[E])
     runs_are_linked::<D, W>(first);
     runs_are_linked::<E, W>(second);
     headline();
+}
+
+/// So are the packets that either side's run handed out: what it showed of an outbox, or posted to
+/// a relay, to its end or up to the crash that cut it off, also where the text was in doubt until
+/// the run opened its session. From then on each is the packet of the text at its position, so no
+/// other text gets that, and it is forged in no world that a disk may stand for later.
+pub fn handed_out<D: Disk, E: Disk, W: Draws>(first: &[D], second: &[E])
+    ensures said { (k : Mechanism) → IsLawfulMechanism k → (w : World) (joints : ℕ → Joint)
+        → IsLawfulWorld k w
+        → IsConversation D.state E.state W.at first.now second.now k w joints
+        → (n : ℕ) (packet : List ℕ)
+        → WasHandedOut D.state E.state W.at k first.now second.now joints n packet
+        → IsPacketOf k (joints (n + 1)).world packet }
+    ensures first { (k : Mechanism) → IsLawfulMechanism k → (w : World) (joints : ℕ → Joint)
+        → IsLawfulWorld k w
+        → IsConversation D.state E.state W.at first.now second.now k w joints
+        → (n m : ℕ) (b : D) (packet : List ℕ) (v : World) → n < m
+        → slice_get first.now m ≡ Some b
+        → WasHandedOut D.state E.state W.at k first.now second.now joints n packet
+        → IsAmongKnown (known_in k First (joints m)) v → IsUnforged k v First packet }
+    ensures second { (k : Mechanism) → IsLawfulMechanism k → (w : World) (joints : ℕ → Joint)
+        → IsLawfulWorld k w
+        → IsConversation D.state E.state W.at first.now second.now k w joints
+        → (n m : ℕ) (b : E) (packet : List ℕ) (v : World) → n < m
+        → slice_get second.now m ≡ Some b
+        → WasHandedOut D.state E.state W.at k first.now second.now joints n packet
+        → IsAmongKnown (known_in k Second (joints m)) v → IsUnforged k v Second packet }
+{
+    join::<D, E, W>(first, second);
+    runs_are_linked::<D, W>(first);
+    runs_are_linked::<E, W>(second);
+    headline();
+    client_grounds();
 }

@@ -17,6 +17,7 @@ ghost use Rattle.session_commands.specs.Beginning.{Began};
 ghost use Rattle.session_commands.specs.Acting.{RunsAct};
 ghost use Rattle.session_commands.specs.WholeRuns.{Command, IsCutFrom, Ran, asked_by};
 ghost use Rattle.conversation.specs.Answered.{IsAcknowledged};
+ghost use Rattle.conversation.specs.HandedOut.{HandsOut, HasHandedOut};
 ghost use Rattle.conversation.specs.Joints.{GoesOn, IsConversation, Joint, joint_of, known_in};
 ghost use Rattle.conversation.specs.Talk.{HasWholeTalked, IsWholeTalk};
 
@@ -98,6 +99,32 @@ pub fn any_run_counts<D: Disk, E: Disk, W: Draws>(first: &[D], second: &[E])
         → Ran E.state W.at k Second before after (known_in k Second (joints n)) later
         → GoesOn D.state E.state W.at first.now second.now k w joints n other after
         (λ now. known_in k Second (now (n + 1)) ≡ later) }
+{
+    client_grounds();
+}
+
+/// And what such a run hands out it has handed out then, so `handed_out` speaks of it: also where a
+/// crash cut it off behind the moment at which its session stood open, as the run's own clause has
+/// that (`ShowsBehind`, `SyncsBehind`).
+pub fn any_run_hands_out<D: Disk, E: Disk, W: Draws>(first: &[D], second: &[E])
+    ensures first { (k : Mechanism) → IsLawfulMechanism k → (w : World) (joints : ℕ → Joint)
+        → IsLawfulWorld k w
+        → IsConversation D.state E.state W.at first.now second.now k w joints
+        → (n : ℕ) (before after : D) (other : E) (later : Known) → length first.now ≡ n + 1
+        → slice_get first.now n ≡ Some before → slice_get second.now n ≡ Some other
+        → (ran : Ran D.state W.at k First before after (known_in k First (joints n)) later)
+        (packet : List ℕ) → HandsOut ran packet
+        → GoesOn D.state E.state W.at first.now second.now k w joints n after other
+        (λ now. HasHandedOut D.state W.at k First (first.now ++ after ∷ []) now n packet) }
+    ensures second { (k : Mechanism) → IsLawfulMechanism k → (w : World) (joints : ℕ → Joint)
+        → IsLawfulWorld k w
+        → IsConversation D.state E.state W.at first.now second.now k w joints
+        → (n : ℕ) (before after : E) (other : D) (later : Known) → length first.now ≡ n + 1
+        → slice_get second.now n ≡ Some before → slice_get first.now n ≡ Some other
+        → (ran : Ran E.state W.at k Second before after (known_in k Second (joints n)) later)
+        (packet : List ℕ) → HandsOut ran packet
+        → GoesOn D.state E.state W.at first.now second.now k w joints n other after
+        (λ now. HasHandedOut E.state W.at k Second (second.now ++ after ∷ []) now n packet) }
 {
     client_grounds();
 }

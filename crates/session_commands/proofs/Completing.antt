@@ -85,7 +85,7 @@ shown : {X : Type 0} (state : X → DiskState) (k : Mechanism) (w : World) (side
     → Shown state k shows start now ending lines → DidWork ending
 shown state k w side shows start now ending lines whole none (wasnt_opened refusal why leaves) =
     unopened state k w side start now refusal whole none why
-shown state k w side shows start now ending lines whole none (was_shown kept is leaves) = inl refl
+shown state k w side shows start now ending lines whole none (was_shown kept is behind leaves) = inl refl
 
 pub show_completes : {X : Type 0} (state : X → DiskState) (k : Mechanism) (w : World) (side : Side) (shows : Client → List ℕ)
     (start now : X) (ending : Ending) (lines : List ℕ) → ReadsWhole k w side (state start) → NoneFailed (state start) (state now)

@@ -3,6 +3,7 @@ use Rattle.std.proofs.Common.{Err, List, Ok, Result, Some, [], arith, append-nil
 use Rattle.dr_base.specs.declared.position.Side.{Side}
 use Rattle.dr_disk.specs.Spans.{Span}
 use Rattle.dr_disk.specs.State.{Always, DiskState, IsLawful}
+use Rattle.dr_disk.proofs.Steps.{widen}
 use Rattle.dr_model.specs.Machines.WorldActs.{act_in}
 use Rattle.dr_model.specs.Machines.WorldSides.{kept_in}
 use Rattle.dr_model.specs.Machines.Worlds.{World}
@@ -33,7 +34,8 @@ use Rattle.command_lines.specs.InWorlds.{goes_on, is_in_doubt, stays_refused, st
 use Rattle.session_commands.specs.Acting.{RunsIn}
 use Rattle.command_lines.specs.Showing.{shows_nothing, shows_world}
 use Rattle.session_commands.specs.Showing.{ShowsIn}
-use Rattle.session_commands.specs.Syncing.{StandsForCourse, SyncRunsIn, broken_of}
+use Rattle.session_commands.specs.SyncMoments.{StandsForCourse, SyncsBehind}
+use Rattle.session_commands.specs.Syncing.{SyncRunsIn, broken_of}
 use Rattle.session_commands.proofs.Syncs.{parted}
 
 -- ---- what is read at entry
@@ -113,6 +115,17 @@ module _ (k : Mechanism) (side : Side) (known : Known) (w : World) (which : IsAm
         was_cut_in_sync known w which [] replies fair (λ c left. ⊎_elim inl (λ r. inr (course_known k side w replies start c r))
         (left_by start now (StandsForCourse k side w replies start) lawful runs.any_moment c (leaves c left)))
 
+  -- behind the opening of a sync
+  pub behind_cut : (start opened now crashed : DiskState) → IsLawful opened
+      → ((c : List ℕ) → crashed.image c → IsLeftBetween opened now c) → (replies : List Replied) → AreUnforged k [] side w replies
+      → SyncsBehind k side w replies start opened now → Link k side start crashed known (known_after_sync k [] side w [] replies)
+  behind_cut start opened now crashed lawful leaves replies fair behind =
+      was_synced known w which [] [] replies fair (λ c left.
+      ⊎_elim (λ was. inl (behind.stands c was)) (course_known k side w replies start c)
+      (left_by opened now (StandsForCourse k side w replies start) lawful
+      (widen opened now (StandsForCourse k side w replies start)
+      (λ d. opened.image d ⊎ StandsForCourse k side w replies start d) (λ d r. inr r) behind.passed) c (leaves c left)))
+
   -- ---- a command that ended
 
   module _ (grounds : Grounds k) (start now : DiskState) where
@@ -134,6 +147,16 @@ module _ (k : Mechanism) (side : Side) (known : Known) (w : World) (which : IsAm
         (runs : ShowsIn k w side shows start now ending lines) → Link k side start now known (shown_known runs known)
     shows_link lawful shows ending lines (shows_nothing refusal on) = stays_link start now on
     shows_link lawful shows ending lines (shows_world on rests) = was_opened known w which (rest_stands w lawful rests)
+
+    -- and where a crash came once the session was open
+    pub shown_cut : (crashed : DiskState) → ((c : List ℕ) → crashed.image c → now.image c) → IsLawfulWorld k w
+        → (shows : Client → List ℕ) (ending : Ending) (lines : List ℕ)
+        (runs : ShowsIn k w side shows start now ending lines) → Link k side start crashed known (shown_known runs known)
+    shown_cut crashed alone lawful shows ending lines (shows_nothing refusal on) =
+        was_left known (λ c left.
+        ⊎_elim inl (λ s. ⊎_elim inl (λ stood. inr (on_known start c stood)) s) (on.any_moment.last c (alone c left)))
+    shown_cut crashed alone lawful shows ending lines (shows_world on rests) =
+        was_opened known w which (λ c left. rest_stands w lawful rests c (alone c left))
 
     module _ (lawful : IsLawfulWorld k w) (kept : Client) (replies : List Replied) (fair : AreUnforged k [] side w replies) where
       stored : IsClientAtRest (kept_in k (course_in k [] side w replies).state side) now

@@ -1,5 +1,5 @@
 -- A command that syncs, from its calls.
-use Rattle.std.proofs.Common.{Err, List, Ok, Result, [], ap, arith, inl, inr, refl, subst, sym, ℕ, ⊎_elim, ◌≤◌, ◌∙◌, ◌≡◌, ◌⊎◌}
+use Rattle.std.proofs.Common.{Err, List, Ok, Result, Some, [], ap, arith, inl, inr, refl, subst, sym, ℕ, ⊎_elim, ◌≤◌, ◌∙◌, ◌≡◌, ◌⊎◌}
 use Rattle.dr_base.specs.Causes.{Rose}
 use Rattle.dr_base.specs.declared.position.Side.{Side}
 use Rattle.dr_disk.specs.Spans.{IsQuiet, Span}
@@ -7,6 +7,7 @@ use Rattle.dr_disk.specs.State.{Always, DiskState, IsLawful}
 use Rattle.dr_disk.proofs.Steps.{quiet_twice, spans, widen}
 use Rattle.dr_model.specs.Machines.WorldSides.{kept_in}
 use Rattle.dr_model.specs.Machines.Worlds.{World}
+use Rattle.dr_model.specs.Theorems.LawfulWorlds.{IsLawfulWorld}
 use Rattle.dr_ports.specs.States.{SinkState}
 use Rattle.dr_ports.specs.Wires.{Port}
 use Rattle.kem_laws.specs.Mechanism.{Mechanism}
@@ -21,17 +22,20 @@ use Rattle.slot_store.proofs.Outside.{twice_outside}
 use Rattle.client.specs.Cells.{client_cell}
 use Rattle.client.specs.Clients.{ClientNow, IsReady, client_area}
 use Rattle.client.specs.InWorlds.{IsIn, StandsFor}
-use Rattle.client.specs.Opening.{IsAsRead, IsEntryOrAsRead, OpensIn}
-use Rattle.client.specs.Syncing.InWorlds.{IsReachedIn, LeadsTo, SyncsIn}
+use Rattle.client.specs.Opening.{IsAsRead, IsEntryOrAsRead, OpensIn, ReadsAsSide}
+use Rattle.client.specs.Syncing.InWorlds.{AreUnforged, IsReachedIn, LeadsTo, SyncsIn}
 use Rattle.client.specs.Syncing.Moments.{Moment, moment}
+use Rattle.client.specs.Syncing.Parties.{client_party}
 use Rattle.client.specs.Syncing.SoFar.{IsReached, Stands, Talked}
 use Rattle.client.specs.Syncing.Syncs.{EndsSync, HasRecord, IsRequestCut, IsSyncOver, IsUnheard}
 use Rattle.client.specs.declared.syncing.faults.SyncFault.{SyncFault}
 use Rattle.client.specs.declared.syncing.faults.SyncFault.TheVariants.{Closed, Link, Peer, Refused, Store, Write}
-use Rattle.session_commands.specs.Disks.{IsClientAtRest}
-use Rattle.session_commands.specs.Syncing.{CameToEnd, IsStored, IsSyncLeft, LeavesCourse, RestsIn, StandsForCourse, SyncEnds, SyncRunsIn, is_as_read, is_of_course}
-use Rattle.command_lines.proofs.Standing.{as_read_sound, both_left, left_sound}
+use Rattle.session_commands.specs.Disks.{ClientStandsOpen, IsClientAtRest}
+use Rattle.session_commands.specs.SyncMoments.{IsSyncLeft, LeavesCourse, StandsForCourse, SyncsBehind, is_as_read, is_of_course}
+use Rattle.session_commands.specs.Syncing.{CameToEnd, IsStored, RestsIn, SyncEnds, SyncRunsIn}
+use Rattle.command_lines.proofs.Standing.{as_read_sound, both_left, left_sound, only_opened}
 use Rattle.command_lines.proofs.Truly.{same_told}
+use Rattle.session_commands.proofs.Opened.{stands_at}
 
 -- ---- after an opening of the client
 
@@ -101,19 +105,6 @@ module _ (k : Mechanism) (start mid now : DiskState) (lawful : IsLawful now) whe
       sound = left_sound client_cell client_cell (twice_outside client_area) k start mid c alike r.undamaged r.outside;
     }
 
-  pub leaves_course : (p : Party Client) (kept : Client) (replies : List Replied) → Span start mid (IsEntryOrAsRead k start)
-      → Always (IsAsRead k start) mid → Span mid now (IsReached p kept replies mid) → LeavesCourse k p kept replies start now
-  leaves_course p kept replies opening alike passed = record {
-    any_moment =
-        spans start mid now (λ c. start.image c ⊎ IsSyncLeft k p kept replies start c)
-        (widen start mid (IsEntryOrAsRead k start) (λ c. start.image c ⊎ IsSyncLeft k p kept replies start c)
-        (λ c s. ⊎_elim (λ was. inl was) (λ as_read. inr (is_as_read as_read)) s) opening)
-        (widen mid now (IsReached p kept replies mid) (λ c. start.image c ⊎ IsSyncLeft k p kept replies start c)
-        (λ c r. inr (of_course alike p kept replies c r)) passed);
-    reads = λ s told.
-        ⊎_elim (λ was. is_as_read (alike s was)) (λ r. of_course alike p kept replies s r) (passed.last s (lawful.seen_now s told));
-  }
-
   module _ (side : Side) (w : World) (replies : List Replied) where
     stands_first : (c : List ℕ) → IsAsRead k start c → StandsFor k w side c → StandsForCourse k side w replies start c
     stands_first c as_read stands = record {
@@ -163,4 +154,46 @@ module _ (k : Mechanism) (start mid now : DiskState) (lawful : IsLawful now) whe
         rests = rests_in result ends syncs.leads;
         arrived = λ s told.
             ⊎_elim (λ was. same_told client_cell k w side s (opens.client.1 s was)) (λ truly. truly) (syncs.arrived.stored.last s (lawful.seen_now s told));
+      }
+
+      -- from the opening on
+      pub syncs_behind : (result : Result More SyncFault) → OpensIn k w side start mid (Ok client)
+          → Span start mid (IsEntryOrAsRead k start)
+          → ((s : List ℕ) → mid.seen ≡ Some s → IsAsRead k start s) → Always (IsAsRead k start) mid
+          → SyncsIn k [] side w replies ahead behind result → SyncsBehind k side w replies start mid now
+      syncs_behind result opens opening reads alike syncs = record {
+        opening = only_opened client_cell k side w start mid (stands_at k w side start mid (Ok client) opens) opening reads;
+        stands = opens.client.1;
+        passed =
+            widen mid now (IsReachedIn k [] side w replies mid) (StandsForCourse k side w replies start) (in_course alike side w replies)
+            syncs.passed;
+      }
+
+module _ {X : Type 0} (state : X → DiskState) (k : Mechanism) (kept : Client) (replies : List Replied) (start mid now : X)
+    (lawful : IsLawful (state now)) (stands : ClientStandsOpen k kept (state start) (state mid)) where
+  abbrev Left : List ℕ → Type 0
+  Left = IsSyncLeft k (client_party k [] kept) kept replies (state start)
+
+  pub leaves_course : Span (state start) (state mid) (IsEntryOrAsRead k (state start))
+      → Span (state mid) (state now) (IsReached (client_party k [] kept) kept replies (state mid))
+      → ((w : World) (side : Side) → IsLawfulWorld k w → ReadsAsSide k w side (state start) → AreUnforged k [] side w replies
+      → SyncsBehind k side w replies (state start) (state mid) (state now))
+      → LeavesCourse state k kept replies start now
+  leaves_course opening passed in_worlds =
+      let reached : (c : List ℕ) → IsReached (client_party k [] kept) kept replies (state mid) c → Left c =
+      of_course k (state start) (state mid) (state now) lawful stands.alike (client_party k [] kept) kept replies in
+      record {
+        any_moment =
+            spans (state start) (state mid) (state now) (λ c. (state start).image c ⊎ Left c)
+            (widen (state start) (state mid) (IsEntryOrAsRead k (state start)) (λ c. (state start).image c ⊎ Left c)
+            (λ c s. ⊎_elim (λ was. inl was) (λ as_read. inr (is_as_read as_read)) s) opening)
+            (widen (state mid) (state now) (IsReached (client_party k [] kept) kept replies (state mid))
+            (λ c. (state start).image c ⊎ Left c) (λ c r. inr (reached c r)) passed);
+        reads = λ s told.
+            ⊎_elim (λ was. is_as_read (stands.alike s was)) (reached s) (passed.last s (lawful.seen_now s told));
+        opened = mid;
+        stands = stands;
+        behind =
+            widen (state mid) (state now) (IsReached (client_party k [] kept) kept replies (state mid)) Left reached passed;
+        in_worlds = in_worlds;
       }

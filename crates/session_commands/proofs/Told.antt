@@ -12,11 +12,12 @@ use Rattle.endings.specs.declared.ending.Ending.{Ending}
 use Rattle.endings.specs.declared.ending.Ending.TheVariants.{NoMemory}
 use Rattle.kem_laws.specs.Mechanism.{Mechanism}
 use Rattle.session_model.specs.Clients.{Client}
+use Rattle.slot_store.specs.AtRest.{IsReadAtRest}
 use Rattle.slot_store.proofs.Outside.{self_outside}
 use Rattle.client.specs.Clients.{ClientNow, client_area}
 use Rattle.client.specs.InWorlds.{StandsFor}
 use Rattle.client.specs.Keepings.{client_keeping}
-use Rattle.client.specs.Opening.{IsAsRead, IsClientOpened, IsEntryOrAsRead, IsUnopened, OpensIn, ReadsAsSide, StandsInOpening}
+use Rattle.client.specs.Opening.{IsAsRead, IsClientOpened, IsEntryOrAsRead, IsLeftAtRest, IsReadNewest, IsUnopened, OpensIn, ReadsAsSide, StandsInOpening}
 use Rattle.client.specs.Cells.{client_cell}
 use Rattle.client.specs.declared.refusals.OpenRefusal.{OpenRefusal}
 use Rattle.client.specs.declared.refusals.OpenRefusal.TheVariants.{Memory}
@@ -66,17 +67,18 @@ module _ {X : Type 0} (state : X → DiskState) (k : Mechanism) (ends : Client �
   -- one was, and what it keeps is told
   pub tells_opened : IsLawful (state now) → (client : ClientNow) → IsClientOpened k client (state start) (state now)
       → Span (state start) (state now) (IsEntryOrAsRead k (state start))
+      → (IsReadAtRest client_area (state start) → IsReadNewest (state start) → IsLeftAtRest (state start) (state now) (Ok client))
       → ((w : World) (side : Side) → IsLawfulWorld k w → ReadsAsSide k w side (state start)
       → OpensIn k w side (state start) (state now) (Ok client))
       → Ends (ends client.kept) (shows client.kept) old new code → old.faults ≤ new.faults → Tells
-  tells_opened lawful client opened opening in_worlds written later =
+  tells_opened lawful client opened opening still in_worlds written later =
       show_counts (client_place k) open_code state k start now ends shows old new code
       (record {
         ending = ends client.kept;
         lines = shows client.kept;
         came =
             shown_runs (client_place k) client_keeping state k ends shows start now lawful client (client_fits k client)
-            (opened_at k client (state start) (state now) opened) opening
+            (opened_at k client (state start) (state now) opened) opening (λ rests. (still rests.0 rests.1).one_sync)
             (λ w side lawful_world stands. opens_at k w side client (state start) (state now) (in_worlds w side lawful_world stands));
         ends = written;
       }) later

@@ -25,10 +25,10 @@ use Rattle.command_lines.specs.InWorlds.{goes_on, is_in_doubt, stays_refused, st
 use Rattle.session_commands.specs.Acting.{RunsIn}
 use Rattle.command_lines.specs.Showing.{shows_nothing, shows_world}
 use Rattle.session_commands.specs.Showing.{ShowsIn}
-use Rattle.session_commands.specs.WholeRuns.{AreRun, Passed, Ran, acted, asked_by, showed, stayed, synced, was_cut_acting, was_cut_showing, was_cut_staying, was_cut_syncing, was_left_alone}
+use Rattle.session_commands.specs.WholeRuns.{AreRun, Passed, Ran, acted, asked_by, showed, stayed, synced, was_cut_acting, was_cut_showing, was_cut_shown, was_cut_staying, was_cut_synced, was_cut_syncing, was_left_alone}
 use Rattle.session_commands.proofs.KnownWorlds.{AreLawful, link_lawful, one_lawful}
-use Rattle.session_commands.proofs.Linking.{acts_cut, acts_link, reads_one, shows_link, stays_cut, stays_link, syncs_cut, syncs_link}
-use Rattle.session_commands.proofs.Wholeness.{reads_whole, runs_whole, syncs_whole}
+use Rattle.session_commands.proofs.Linking.{acts_cut, acts_link, behind_cut, reads_one, shown_cut, shows_link, stays_cut, stays_link, syncs_cut, syncs_link}
+use Rattle.session_commands.proofs.Wholeness.{behind_whole, reads_whole, runs_whole, syncs_whole}
 
 -- ---- the disk over a command
 
@@ -73,6 +73,9 @@ module _ {X W : Type 0} (state : X → DiskState) (sound : (x : X) → IsLawful 
         (was_cut_showing known w which shows now ending lines runs leaves) =
         stays_cut k side known w which (state a) (state now) (state b) (sound a) leaves
         (shows_on k w side shows (state a) (state now) ending lines runs)
+    ran_link grounds before after are (was_cut_shown known w which shows opened ending lines runs alone) =
+        shown_cut k side known w which grounds (state a) (state opened) (state b) alone (one_lawful k known w are which)
+        shows ending lines runs
     ran_link grounds before after are (synced known w which kept replies result fair runs) =
         syncs_link k side known w which grounds (state a) (state b) (one_lawful k known w are which)
         kept replies fair result runs
@@ -80,6 +83,8 @@ module _ {X W : Type 0} (state : X → DiskState) (sound : (x : X) → IsLawful 
         (was_cut_syncing known w which kept replies now result fair runs leaves) =
         syncs_cut k side known w which (state a) (state now) (state b) (sound a) leaves kept replies
         result fair runs
+    ran_link grounds before after are (was_cut_synced known w which kept replies opened now result fair runs behind leaves) =
+        behind_cut k side known w which (state a) (state opened) (state now) (state b) (sound opened) leaves replies fair behind
     ran_link grounds before after are (stayed known w which on) =
         stays_link k side known w which (state a) (state b) on
     ran_link grounds before after are (was_cut_staying known w which now on leaves) =
@@ -113,6 +118,9 @@ module _ {X W : Type 0} (state : X → DiskState) (sound : (x : X) → IsLawful 
         c left =
         runs_whole (state a) (state now) (sound a) whole k side w w
         (shows_on k w side shows (state a) (state now) ending lines runs) c (leaves c left)
+    ran_whole before after (was_cut_shown known w which shows opened ending lines runs alone) whole c left =
+        runs_whole (state a) (state opened) (sound a) whole k side w w
+        (shows_on k w side shows (state a) (state opened) ending lines runs) c (inl (alone c left))
     ran_whole before after (synced known w which kept replies result fair runs) whole c left =
         syncs_whole (state a) (state b) (sound a) whole k side w kept replies result runs c
         (inl left)
@@ -120,6 +128,8 @@ module _ {X W : Type 0} (state : X → DiskState) (sound : (x : X) → IsLawful 
         whole c left =
         syncs_whole (state a) (state now) (sound a) whole k side w kept replies result runs c
         (leaves c left)
+    ran_whole before after (was_cut_synced known w which kept replies opened now result fair runs behind leaves) whole c left =
+        behind_whole (state a) (state now) (sound a) whole (state opened) (sound opened) k side w replies behind c (leaves c left)
     ran_whole before after (stayed known w which on) whole c left =
         runs_whole (state a) (state b) (sound a) whole k side w w on c (inl left)
     ran_whole before after (was_cut_staying known w which now on leaves) whole c left =

@@ -1,8 +1,9 @@
 -- A disk that is read without damage stays so over a command and a crash in it, and the next command reads a world whole.
-use Rattle.std.proofs.Common.{List, None, Ok, Option, Some, ap, refl, subst, sym, ℕ, ⊎_elim, ◌∙◌, ◌≡◌}
+use Rattle.std.proofs.Common.{List, None, Ok, Option, Some, ap, inr, refl, subst, sym, ℕ, ⊎_elim, ◌∙◌, ◌≡◌, ◌⊎◌}
 use Rattle.std.specs.Prelude.{Result, option_map}
 use Rattle.dr_base.specs.declared.position.Side.{Side}
 use Rattle.dr_disk.specs.State.{Always, DiskState, IsLawful}
+use Rattle.dr_disk.proofs.Steps.{widen}
 use Rattle.dr_model.specs.Machines.WorldSides.{kept_in}
 use Rattle.dr_model.specs.Machines.Worlds.{World}
 use Rattle.dr_model.specs.Theorems.LawfulWorlds.{IsLawfulWorld}
@@ -19,7 +20,8 @@ use Rattle.client.specs.Syncing.InOrder.{IsLeftBetween}
 use Rattle.client.specs.declared.syncing.faults.SyncFault.{SyncFault}
 use Rattle.session_commands.specs.Completing.{ReadsWhole}
 use Rattle.session_commands.specs.Disks.{StaysSound, RunsOn, StandsForOne}
-use Rattle.session_commands.specs.Syncing.{StandsForCourse, SyncRunsIn}
+use Rattle.session_commands.specs.SyncMoments.{StandsForCourse, SyncsBehind}
+use Rattle.session_commands.specs.Syncing.{SyncRunsIn}
 use Rattle.session_commands.proofs.Linking.{left_by}
 
 module _ (start now : DiskState) (lawful : IsLawful start) (whole : Always (IsUndamaged client_area) start) where
@@ -37,6 +39,16 @@ module _ (start now : DiskState) (lawful : IsLawful start) (whole : Always (IsUn
   syncs_whole k side w kept replies result runs c left =
       ⊎_elim (whole c) (λ stood. sound_whole c stood.sound)
       (left_by start now (StandsForCourse k side w replies start) lawful runs.any_moment c left)
+
+  -- and behind the opening of a sync
+  pub behind_whole : (opened : DiskState) → IsLawful opened → (k : Mechanism) (side : Side) (w : World) (replies : List Replied)
+      → SyncsBehind k side w replies start opened now → (c : List ℕ) → IsLeftBetween opened now c → IsUndamaged client_area c
+  behind_whole opened lawful_then k side w replies behind c left =
+      ⊎_elim (λ was. ⊎_elim (whole c) (λ s. ⊎_elim (whole c) (λ stood. sound_whole c stood.sound) s) (behind.opening.any_moment.last c was))
+      (λ stood. sound_whole c stood.sound)
+      (left_by opened now (StandsForCourse k side w replies start) lawful_then
+      (widen opened now (StandsForCourse k side w replies start)
+      (λ d. opened.image d ⊎ StandsForCourse k side w replies start d) (λ d r. inr r) behind.passed) c left)
 
 -- bytes that stand for what is kept and are read without damage hold a record
 holds_of : (k : Mechanism) (c : List ℕ) (kept : Client) (o : Option (List ℕ)) → stored_record client_area c ≡ o

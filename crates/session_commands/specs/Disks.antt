@@ -5,13 +5,14 @@ use Rattle.dr_disk.specs.State.{DiskState}
 use Rattle.dr_model.specs.Machines.Worlds.{World}
 use Rattle.kem_laws.specs.Mechanism.{Mechanism}
 use Rattle.session_model.specs.Clients.{Client}
+use Rattle.slot_store.specs.AtRest.{IsReadAtRest}
 use Rattle.slot_store.specs.Store.{HasArea}
 use Rattle.client.specs.Cells.{client_cell}
 use Rattle.client.specs.Clients.{client_area}
-use Rattle.client.specs.Opening.{IsUnopened}
+use Rattle.client.specs.Opening.{IsReadNewest, IsUnopened}
 use Rattle.client.specs.Syncing.InOrder.{IsAtRestFor}
 use Rattle.client.specs.declared.refusals.OpenRefusal.{OpenRefusal}
-use Rattle.command_lines.specs.Places.{HasRecordUnharmedInCell, IsReadOrEitherInCell, LeavesAsReadInCell, LeavesEitherInCell, LeavesPlaceAtRest, Place, ReadsAsKeptInCell, RunsOnInCell, StandsForOneInCell, StaysSoundInCell}
+use Rattle.command_lines.specs.Places.{HasRecordUnharmedInCell, IsReadOrEitherInCell, LeavesAsReadInCell, LeavesEitherInCell, LeavesPlaceAtRest, Place, ReadsAsKeptInCell, RunsOnInCell, StandsForOneInCell, StandsOpen, StaysSoundInCell}
 use Rattle.session_commands.specs.Opening.{ending_of_open}
 
 -- the disk has room for a client's area
@@ -22,11 +23,16 @@ HasClientRoom disk = HasArea client_area disk
 abbrev pub IsClientAtRest : Client → DiskState → Type 0
 IsClientAtRest = IsAtRestFor
 
+-- what a read gives is at rest, for a record in the newest version if it has one
+abbrev pub IsClientReadAtRest : DiskState → Type 0
+IsClientReadAtRest disk = IsReadAtRest client_area disk × IsReadNewest disk
+
 -- where a client is alone on its disk
 abbrev pub client_place : Mechanism → Place
 client_place k = record {
   cell = client_cell;
   rests = IsAtRestFor;
+  read_at_rest = IsClientReadAtRest;
   Refusal = OpenRefusal;
   ending = ending_of_open;
   refused = λ state start now refusal. IsUnopened state k start now refusal;
@@ -54,6 +60,9 @@ LeavesEither = LeavesEitherInCell client_cell
 
 abbrev pub LeavesAtRest : Mechanism → Client → Client → DiskState → DiskState → Type 0
 LeavesAtRest k = LeavesPlaceAtRest (client_place k) k
+
+abbrev pub ClientStandsOpen : Mechanism → Client → DiskState → DiskState → Type 0
+ClientStandsOpen k = StandsOpen (client_place k) k
 
 -- ---- in worlds
 

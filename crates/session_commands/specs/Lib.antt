@@ -10,6 +10,7 @@ pub mod PartsSaid
 pub mod Beginning
 pub mod Checking
 pub mod Completing
+pub mod SyncMoments
 pub mod Syncing
 pub mod SyncCompleting
 pub mod Histories

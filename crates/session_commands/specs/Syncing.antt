@@ -27,7 +27,7 @@ use Rattle.sync_model.specs.Parties.{Party}
 use Rattle.sync_model.specs.Simulation.{IsSameCourse}
 use Rattle.sync_model.specs.declared.more.More.{More}
 use Rattle.client.specs.InWorlds.{StandsFor}
-use Rattle.client.specs.Opening.{IsAsRead, IsUnopened, ReadsAsSide}
+use Rattle.client.specs.Opening.{IsUnopened, ReadsAsSide}
 use Rattle.client.specs.Syncing.Arrivals.{OpensArrived}
 use Rattle.client.specs.Receipts.{TellTruly}
 use Rattle.client.specs.Syncing.InWorlds.{AreUnforged, IsKeptIn, course_in}
@@ -40,8 +40,9 @@ use Rattle.client.specs.declared.refusals.OpenRefusal.{OpenRefusal}
 use Rattle.client.specs.declared.syncing.faults.SyncFault.{SyncFault}
 use Rattle.client.specs.declared.syncing.faults.SyncFault.TheVariants.{Closed as SyncClosed, Link as SyncLink, Peer as SyncPeer, Refused as SyncRefused, Store as SyncStore, Write as SyncWrite}
 use Rattle.client.specs.declared.syncing.faults.SyncRefusal.TheVariants.{BoxFull as SyncBoxFull, Denied as SyncDenied, InboxFull as SyncInboxFull, Unknown as SyncUnknown}
-use Rattle.session_commands.specs.Disks.{HasRecordUnharmed, IsClientAtRest, ReadsAsKept, StaysSound, LeavesAtRest, LeavesAsRead, RunsOn}
+use Rattle.session_commands.specs.Disks.{IsClientAtRest, ReadsAsKept, LeavesAtRest, LeavesAsRead, RunsOn}
 use Rattle.session_commands.specs.Opening.{ending_of_open}
+use Rattle.session_commands.specs.SyncMoments.{LeavesCourse, StandsForCourse}
 
 -- ---- how the command ends
 
@@ -83,23 +84,6 @@ abbrev pub HasWritten : List ℕ → SinkState → SinkState → Result More Syn
 HasWritten lines old new (Err SyncWrite) = TookBeginning old.taken new.taken lines
     × Rose old.faults new.faults
 HasWritten lines old new _ = (new.taken ≡ appended old.taken lines) × (new.faults ≡ old.faults)
-
--- ---- what the disk holds
-
--- bytes as those that were read, or with the record of what the course keeps after a beginning of
--- the replies
-pub data IsSyncLeft (k : Mechanism) (p : Party Client) (kept : Client) (replies : List Replied)
-    (start : DiskState) (c : List ℕ) : Type 0 where
-  is_as_read : IsAsRead k start c → IsSyncLeft k p kept replies start c
-  is_of_course : (front back : List Replied) → replies ≡ front ++ back
-      → HasRecordUnharmed (course_of p kept front).state start c
-      → IsSyncLeft k p kept replies start c
-
--- Each crash meanwhile leaves such, or what one might have left at entry; a read gives such.
-pub record LeavesCourse (k : Mechanism) (p : Party Client) (kept : Client) (replies : List Replied)
-    (start now : DiskState) : Type 0 where
-  pub any_moment : Span start now (λ c. start.image c ⊎ IsSyncLeft k p kept replies start c)
-  pub reads : (s : List ℕ) → now.seen ≡ Some s → IsSyncLeft k p kept replies start s
 
 -- ---- how the sync ends
 
@@ -143,15 +127,6 @@ SyncEnds p kept replies start now link left before after (Err (SyncStore call)) 
 SyncEnds p kept replies start now link left before after (Err (SyncClosed call)) = ⊥
 
 -- ---- in worlds
-
--- bytes that stand for the world that the course reaches after a beginning of the replies, and are sound
-pub record StandsForCourse (k : Mechanism) (side : Side) (w : World) (replies : List Replied) (start : DiskState) (c : List ℕ)
-    : Type 0 where
-  pub front : List Replied
-  pub back : List Replied
-  pub split : replies ≡ front ++ back
-  pub stands : StandsFor k (course_in k [] side w front).state side c
-  pub sound : StaysSound start c
 
 -- a call on the disk failed in the step that the last reply asks for: each image stands for the
 -- world before that step, or for the one after it
@@ -205,7 +180,7 @@ pub data RunsSync {X L : Type 0} (state : X → DiskState) (port : L → Port) (
       → RunsSync state port k address start now link left before after LinkFault []
   was_synced : (kept : Client) (replies : List Replied) (result : Result More SyncFault) → ReadsAsKept k (state start) kept
       → AllByRecursion IsLawfulReplied replies → Transfers (client_party k [] kept) kept replies → OpensArrived k [] kept replies
-      → LeavesCourse k (client_party k [] kept) kept replies (state start) (state now)
+      → LeavesCourse state k kept replies start now
       → HasTalkedTo address (port link) (port left) (λ opened last.
       SyncEnds (client_party k [] kept) kept replies (state start) (state now) opened last before after result)
       → (port left).faults Gate ≡ (port link).faults Gate

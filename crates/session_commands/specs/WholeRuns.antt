@@ -14,7 +14,7 @@ use Rattle.session_model.specs.Contents.{Content}
 use Rattle.session_model.specs.declared.answer.Which.{Which}
 use Rattle.sync_model.specs.declared.more.More.{More}
 use Rattle.client.specs.InWorlds.{StandsFor}
-use Rattle.client.specs.Moments.{HaveMoved, IsAmongKnown, Known, settled_in}
+use Rattle.client.specs.Moments.{HaveMoved, IsAmongKnown, Known, known_after_sync, settled_in}
 use Rattle.client.specs.Syncing.InOrder.{IsLeftBetween}
 use Rattle.client.specs.Syncing.InWorlds.{AreUnforged}
 use Rattle.client.specs.declared.syncing.faults.SyncFault.{SyncFault}
@@ -24,6 +24,7 @@ use Rattle.session_commands.specs.Disks.{RunsOn}
 use Rattle.session_commands.specs.Histories.{acted_known, cut_in_sync, cut_known, shown_known, synced_known}
 use Rattle.session_commands.specs.Acting.{RunsIn}
 use Rattle.session_commands.specs.Showing.{ShowsIn}
+use Rattle.session_commands.specs.SyncMoments.{SyncsBehind}
 use Rattle.session_commands.specs.Syncing.{SyncRunsIn}
 
 -- A command that lets the client act once: it says a text or a part of a long one, with the draws
@@ -49,7 +50,9 @@ IsCutFrom start now crashed = (c : List ℕ) → crashed.image c → IsLeftBetwe
 
 -- What lies between two moments of one disk, with what is known of it before and after. A command
 -- reads one of the known worlds, and does there what its clauses say. Where a crash cut it off, it
--- ran on towards a moment that didn't come to stand.
+-- ran on towards a moment that didn't come to stand. One that shows or syncs has shown, sent and
+-- written nothing before the moment at which its session stands open (`ShowsBehind`,
+-- `LeavesCourse`). So where something had gone out, the crash came behind that moment.
 pub data Ran {X W : Type 0} (state : X → DiskState) (draws : W → DrawsState)
     (k : Mechanism) (side : Side) (a b : X) : Known → Known → Type 0 where
   -- a command let the client act once
@@ -69,23 +72,40 @@ pub data Ran {X W : Type 0} (state : X → DiskState) (draws : W → DrawsState)
       → (shows : Client → List ℕ) (ending : Ending) (lines : List ℕ)
       → (runs : ShowsIn k w side shows (state a) (state b) ending lines)
       → Ran state draws k side a b known (shown_known runs known)
+  -- or a crash cut it off, wherever, and nothing had been shown
   was_cut_showing : (known : Known) (w : World) → IsAmongKnown known w
       → (shows : Client → List ℕ) (now : X) (ending : Ending) (lines : List ℕ)
       → ShowsIn k w side shows (state a) (state now) ending lines
       → IsCutFrom (state a) (state now) (state b)
       → Ran state draws k side a b known known
+  -- or behind that moment, and some of its lines may have been shown: no call on the disk was to
+  -- come, so the disk was as at the end that didn't come
+  was_cut_shown : (known : Known) (w : World) → IsAmongKnown known w
+      → (shows : Client → List ℕ) (opened : X) (ending : Ending) (lines : List ℕ)
+      → (runs : ShowsIn k w side shows (state a) (state opened) ending lines)
+      → LeavesAlone (state opened) (state b)
+      → Ran state draws k side a b known (shown_known runs known)
   -- one synced, by replies that bring no forged packet
   synced : (known : Known) (w : World) → IsAmongKnown known w
       → (kept : Client) (replies : List Replied) (result : Result More SyncFault)
       → AreUnforged k [] side w replies
       → SyncRunsIn k side w kept replies (state a) (state b) result
       → Ran state draws k side a b known (synced_known k side w replies result)
+  -- or a crash cut it off, wherever, and nothing had been sent or written
   was_cut_syncing : (known : Known) (w : World) → IsAmongKnown known w
       → (kept : Client) (replies : List Replied) (now : X) (result : Result More SyncFault)
       → AreUnforged k [] side w replies
       → SyncRunsIn k side w kept replies (state a) (state now) result
       → IsCutFrom (state a) (state now) (state b)
       → Ran state draws k side a b known (cut_in_sync k side w replies known)
+  -- or behind that moment, and some of it may have been
+  was_cut_synced : (known : Known) (w : World) → IsAmongKnown known w
+      → (kept : Client) (replies : List Replied) (opened now : X) (result : Result More SyncFault)
+      → AreUnforged k [] side w replies
+      → SyncRunsIn k side w kept replies (state a) (state now) result
+      → SyncsBehind k side w replies (state a) (state opened) (state now)
+      → IsCutFrom (state opened) (state now) (state b)
+      → Ran state draws k side a b known (known_after_sync k [] side w [] replies)
   -- one stayed in the world that it read
   stayed : (known : Known) (w : World) → IsAmongKnown known w → RunsOn k side w w (state a) (state b)
       → Ran state draws k side a b known known

@@ -15,7 +15,7 @@ ghost use Rattle.session_model.specs.Contents.{Content};
 ghost use Rattle.slot_store.specs.Reading.{IsUndamaged};
 ghost use Rattle.sync_model.specs.declared.more.More.{More};
 ghost use Rattle.client.specs.Clients.{client_area};
-ghost use Rattle.client.specs.Moments.{IsAmongKnown, Known, Link, StandsStill};
+ghost use Rattle.client.specs.Moments.{IsAmongKnown, Known, Link, StandsStill, known_after_sync};
 ghost use Rattle.client.specs.Opening.{ReadsAsSide};
 ghost use Rattle.client.specs.Syncing.InOrder.{IsLeftBetween};
 ghost use Rattle.client.specs.Syncing.InWorlds.{AreUnforged};
@@ -25,6 +25,7 @@ ghost use Rattle.session_commands.specs.Completing.{ReadsWhole};
 ghost use Rattle.session_commands.specs.Disks.{RunsOn};
 ghost use Rattle.session_commands.specs.Histories.{LinksActs, LinksCuts, cut_in_sync, shown_known, synced_known};
 ghost use Rattle.session_commands.specs.Showing.{ShowsIn};
+ghost use Rattle.session_commands.specs.SyncMoments.{SyncsBehind};
 ghost use Rattle.session_commands.specs.Syncing.{SyncRunsIn};
 
 use client::laws::client_grounds;
@@ -132,3 +133,24 @@ pub fn crashes_are_links<D: Disk, W: Draws>(before: &D, after: &D, crashed: &D, 
         → IsLeftBetween (D.state before.now) (D.state after.now) c)
         → Link k side (D.state before.now) (D.state crashed.now) known known }
 {}
+
+/// So is a crash behind the moment at which the session of a command that shows or syncs stood
+/// open, when some of it may have gone out: the world that was read is known then, and of a sync
+/// those that it may have reached from there. What was known before isn't any more.
+pub fn crashes_behind_are_links<D: Disk>(before: &D, opened: &D, after: &D, crashed: &D)
+    ensures shows { (k : Mechanism) → IsLawfulMechanism k
+        → (side : Side) (known : Known) (w : World) → IsAmongKnown known w → IsLawfulWorld k w
+        → ((c : List ℕ) → (D.state crashed.now).image c → (D.state opened.now).image c)
+        → (shows : Client → List ℕ) (ending : Ending) (lines : List ℕ)
+        → (runs : ShowsIn k w side shows (D.state before.now) (D.state opened.now) ending lines)
+        → Link k side (D.state before.now) (D.state crashed.now) known (shown_known runs known) }
+    ensures syncs { (k : Mechanism) (side : Side) (known : Known) (w : World) → IsAmongKnown known w
+        → ((c : List ℕ) → (D.state crashed.now).image c
+        → IsLeftBetween (D.state opened.now) (D.state after.now) c)
+        → (replies : List Replied) → AreUnforged k [] side w replies
+        → SyncsBehind k side w replies (D.state before.now) (D.state opened.now) (D.state after.now)
+        → Link k side (D.state before.now) (D.state crashed.now) known
+        (known_after_sync k [] side w [] replies) }
+{
+    client_grounds();
+}

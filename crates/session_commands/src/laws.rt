@@ -20,7 +20,9 @@ ghost use Rattle.session_commands.specs.Showing.{RunsShow};
 ghost use Rattle.session_commands.specs.SyncCompleting.{AnswersClient, NoneFailedOver, SyncedToEnd};
 ghost use Rattle.session_commands.specs.Syncing.{RunsSync};
 
-pub use crate::histories::{crashes_are_links, reads_known, runs_are_links, stays_whole};
+pub use crate::histories::{
+    crashes_are_links, crashes_behind_are_links, reads_known, runs_are_links, stays_whole,
+};
 pub use crate::whole_runs::{runs_are_linked, talk};
 use dr_disk::Disk;
 use dr_ports::{Draws, Link};

@@ -1,4 +1,4 @@
-use Rattle.std.proofs.Common.{Ok, Some, [], arith, subst, sym, ◌∙◌, ◌≡◌}
+use Rattle.std.proofs.Common.{Some, [], arith, subst, sym, ◌∙◌, ◌≡◌}
 use Rattle.dr_ports.specs.Writing.{Writes}
 use Rattle.endings.specs.declared.ending.Ending.TheVariants.{Done, NoName}
 use Rattle.session_model.specs.Clients.{Client}
@@ -71,6 +71,7 @@ returns g c =
           (row_opened k name book opened.count at.0 at.1 start mid opened c.in-Ok.ensures.quiet)
           (row_opening g.D.Disk.state k (c.record_law.ensures.written k) name c.args.disk.now c.open.new.disk
           c.open.ensures.any_moment c.open.ensures.reads)
+          (λ rests. (c.in-Ok.ensures.still rests.0 rests.1).one_sync)
           (row_opens g.D.Disk.state k (c.record_law.ensures.written k) name c.args.disk.now c.open.new.disk
           c.open.ensures.any_moment c.open.ensures.reads book opened c.in-Ok.ensures.quiet at.0 at.1);
       ends =

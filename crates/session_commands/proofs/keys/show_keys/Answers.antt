@@ -20,7 +20,8 @@ returns-in-None g c =
     let none : kept.relay ≡ None = sym c.relay_keys.ensures ∙ c.in-None.is in
     tells_opened g.D.Disk.state g.K.Kem.mechanism keys_ending keys_lines c.args.disk.now c.open.new.disk
     (g.O.Sink.at c.args.out.now) (g.O.Sink.at c.finish-in-None.new.out) c.finish-in-None.result.code
-    (g.met.D.Disk.lawful c.open.new.disk) c.in-Ok.client c.in-Ok.ensures.opened c.open.ensures.any_moment c.in-Ok.ensures.in_worlds
+    (g.met.D.Disk.lawful c.open.new.disk) c.in-Ok.client c.in-Ok.ensures.opened c.open.ensures.any_moment
+    c.in-Ok.ensures.still c.in-Ok.ensures.in_worlds
     (subst (λ keys. Ends (ending_of_keys keys) (lines_of_keys kept.state.session keys) (g.O.Sink.at c.args.out.now)
     (g.O.Sink.at c.finish-in-None.new.out) c.finish-in-None.result.code)
     (sym none) c.finish-in-None.ensures.ends)
@@ -33,7 +34,8 @@ returns g c =
     let some : kept.relay ≡ Some keys = sym c.relay_keys.ensures ∙ c.in-Some.is in
     tells_opened g.D.Disk.state g.K.Kem.mechanism keys_ending keys_lines c.args.disk.now c.open.new.disk
     (g.O.Sink.at c.args.out.now) (g.O.Sink.at c.finish_written.new.out) c.finish_written.result.code
-    (g.met.D.Disk.lawful c.open.new.disk) c.in-Ok.client c.in-Ok.ensures.opened c.open.ensures.any_moment c.in-Ok.ensures.in_worlds
+    (g.met.D.Disk.lawful c.open.new.disk) c.in-Ok.client c.in-Ok.ensures.opened c.open.ensures.any_moment
+    c.in-Ok.ensures.still c.in-Ok.ensures.in_worlds
     (subst (λ keys. Ends (ending_of_keys keys) (lines_of_keys kept.state.session keys) (g.O.Sink.at c.args.out.now)
     (g.O.Sink.at c.finish_written.new.out) c.finish_written.result.code)
     (sym some)

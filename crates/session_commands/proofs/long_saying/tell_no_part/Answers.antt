@@ -14,5 +14,5 @@ pub returns-in-Ok : goal.returns-in-Ok
 returns-in-Ok g c =
     tells_opened g.D.Disk.state g.K.Kem.mechanism (λ kept. NoSuchPart c.args.count) (λ kept. []) c.args.disk.now c.open.new.disk
     (g.O.Sink.at c.args.out.now) (g.O.Sink.at c.finish-in-Ok.new.out) c.finish-in-Ok.result.code
-    (g.met.D.Disk.lawful c.open.new.disk) c.in-Ok._client c.in-Ok.ensures.opened c.open.ensures.any_moment
+    (g.met.D.Disk.lawful c.open.new.disk) c.in-Ok._client c.in-Ok.ensures.opened c.open.ensures.any_moment c.in-Ok.ensures.still
     c.in-Ok.ensures.in_worlds c.finish-in-Ok.ensures.ends c.finish-in-Ok.ensures.later

@@ -23,7 +23,7 @@ returns g c =
     tells_opened g.D.Disk.state g.K.Kem.mechanism (long_ending c.args.id) (long_lines c.args.id) c.args.disk.now c.open.new.disk
     (g.O.Sink.at c.args.out.now) (g.O.Sink.at c.close_long.new.out) c.close_long.result.code
     (g.met.D.Disk.lawful c.open.new.disk) c.in-Ok-open.client c.in-Ok-open.ensures.opened c.open.ensures.any_moment
-    c.in-Ok-open.ensures.in_worlds
+    c.in-Ok-open.ensures.still c.in-Ok-open.ensures.in_worlds
     (subst (λ (kept : Client). Ends (long_ending c.args.id kept) (long_lines c.args.id kept) (g.O.Sink.at c.args.out.now)
     (g.O.Sink.at c.close_long.new.out) c.close_long.result.code)
     c.core.ensures c.close_long.ensures.ends)

@@ -17,7 +17,8 @@ pub returns-in-Ok : goal.returns-in-Ok
 returns-in-Ok g c =
     tells_opened g.D.Disk.state g.K.Kem.mechanism (λ kept. Done) (lines_of c.args.listing) c.args.disk.now c.open.new.disk
     (g.O.Sink.at c.args.out.now) (g.O.Sink.at c.finish_written.new.out) c.finish_written.result.code
-    (g.met.D.Disk.lawful c.open.new.disk) c.in-Ok.client c.in-Ok.ensures.opened c.open.ensures.any_moment c.in-Ok.ensures.in_worlds
+    (g.met.D.Disk.lawful c.open.new.disk) c.in-Ok.client c.in-Ok.ensures.opened c.open.ensures.any_moment
+    c.in-Ok.ensures.still c.in-Ok.ensures.in_worlds
     (c.finish_written.ensures.ends _ _
     (subst (λ (kept : Client). Writes (g.O.Sink.at c.args.out.now) (g.O.Sink.at c.write_listing-wrote.new.out) (lines_of c.args.listing kept) c.write_listing-wrote.result)
     c.core.ensures c.write_listing-wrote.ensures))

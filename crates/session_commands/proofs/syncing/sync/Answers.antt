@@ -10,11 +10,11 @@ use Rattle.session_commands.specs.Syncing.{RunsSync, ending_of_sync, lines_of_sy
 use Rattle.client.specs.Cells.{client_cell}
 use Rattle.client.specs.Keepings.{client_keeping}
 use Rattle.command_lines.proofs.Counting.{ended}
-use Rattle.command_lines.proofs.Standing.{only_opened, stood}
+use Rattle.command_lines.proofs.Standing.{only_opened, stood, stood_open}
 use Rattle.session_commands.specs.Disks.{client_place}
 use Rattle.session_commands.proofs.Opened.{client_fits, opened_at, stands_at}
 use Rattle.session_commands.proofs.Quiet.{open_code}
-use Rattle.session_commands.proofs.SyncRuns.{leaves_course, sync_ends, sync_runs}
+use Rattle.session_commands.proofs.SyncRuns.{leaves_course, sync_ends, sync_runs, syncs_behind}
 use Rattle.session_commands.proofs.Syncs.{done_quiet, each_part, has_written, near_result}
 use Rattle.session_commands.proofs.syncing.sync.Goals as goal
 
@@ -85,8 +85,21 @@ returns g c =
             was_synced c.in-Ok.client.kept syncs.replies c.sync-synced.result c.in-Ok.ensures.opened.read syncs.syncs.lawful
             done.transfer
             done.opens
-            (leaves_course g.K.Kem.mechanism (g.D.Disk.state c.args.disk.now) (g.D.Disk.state c.open.new.disk) (g.D.Disk.state c.sync-synced.new.disk) (g.met.D.Disk.lawful c.sync-synced.new.disk)
-            (client_party g.K.Kem.mechanism [] c.in-Ok.client.kept) c.in-Ok.client.kept syncs.replies c.open.ensures.any_moment c.in-Ok.ensures.opened.alike syncs.syncs.passed)
+            (leaves_course g.D.Disk.state g.K.Kem.mechanism c.in-Ok.client.kept syncs.replies
+            c.args.disk.now c.open.new.disk c.sync-synced.new.disk (g.met.D.Disk.lawful c.sync-synced.new.disk)
+            (stood_open (client_place g.K.Kem.mechanism) client_keeping g.K.Kem.mechanism c.in-Ok.client
+            (g.D.Disk.state c.args.disk.now) (g.D.Disk.state c.open.new.disk) (client_fits g.K.Kem.mechanism c.in-Ok.client)
+            (opened_at g.K.Kem.mechanism c.in-Ok.client (g.D.Disk.state c.args.disk.now) (g.D.Disk.state c.open.new.disk)
+            c.in-Ok.ensures.opened)
+            (λ rests. (c.in-Ok.ensures.still rests.0 rests.1).one_sync))
+            c.open.ensures.any_moment syncs.syncs.passed
+            (λ w side lawful stands fair. let opens = c.in-Ok.ensures.in_worlds w side lawful stands in
+            syncs_behind g.K.Kem.mechanism (g.D.Disk.state c.args.disk.now) (g.D.Disk.state c.open.new.disk)
+            (g.D.Disk.state c.sync-synced.new.disk) (g.met.D.Disk.lawful c.sync-synced.new.disk)
+            side w syncs.replies c.in-Ok.client c.sync-synced.new.self (g.O.Sink.at c.args.out.now) (g.O.Sink.at c.sync-synced.new.out)
+            (client_party g.K.Kem.mechanism [] c.in-Ok.client.kept) (g.L.Pipe.port c.open-in-Ok.new.self)
+            (g.L.Pipe.port c.sync-synced.new.link) c.sync-synced.result opens c.open.ensures.any_moment c.open.ensures.reads
+            c.in-Ok.ensures.opened.alike (done.in_worlds w side opens.client.0 fair)))
             (record {
               opened = g.L.Pipe.port c.open-in-Ok.new.self;
               last = g.L.Pipe.port c.sync-synced.new.link;
