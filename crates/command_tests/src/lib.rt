@@ -12,4 +12,6 @@ mod outcomes;
 #[cfg(test)]
 mod sessions;
 #[cfg(test)]
+mod whole_talks;
+#[cfg(test)]
 mod words;

@@ -25,7 +25,7 @@ use Rattle.session_commands.specs.Beginning.{Began, RestsIn, was_begun, wasnt_be
 use Rattle.session_commands.specs.Opening.{ending_of_begin}
 use Rattle.conversation.specs.Joints.{IsConversation, joint_of}
 
-undone : (refusal : BeginRefusal) → ending_of_begin refusal ≡ Done → ⊥
+pub undone : (refusal : BeginRefusal) → ending_of_begin refusal ≡ Done → ⊥
 undone BeginMemory is = absurd (let e : NoMemory ≡ Done = is in cc)
 undone (BeginFault call) is = absurd (let e : DiskFault ≡ Done = is in cc)
 undone (BeginDamaged slot at) is = absurd (let e : Damaged slot at ≡ Done = is in cc)

@@ -59,7 +59,7 @@ module _ {X Y W : Type 0} (state : X → DiskState) (sound_disk : (x : X) → Is
   still = stands client_cell state xs k side w (λ m. known_in k side (joints m)) linked n before here
 
   -- a read gives a world that is known
-  found : (v : World) × IsAmongKnown known v × ReadsAsSide k v side (state before)
+  pub found : (v : World) × IsAmongKnown known v × ReadsAsSide k v side (state before)
   found =
       ⊎_elim
       (λ stood. (

@@ -16,3 +16,5 @@ pub mod Going
 pub mod AnyRun
 pub mod Begun
 pub mod Talking
+pub mod Onward
+pub mod Fitting

@@ -19,15 +19,18 @@ use Rattle.kem_laws.specs.Mechanism.{Mechanism}
 use Rattle.client.specs.Cells.{client_cell}
 use Rattle.client.specs.InWorlds.{StandsFor}
 use Rattle.client.specs.Moments.{AreLinked, IsAmongKnown}
-use Rattle.client.proofs.Standing.{stands}
+use Rattle.client.proofs.Later.{lawful_at}
+use Rattle.client.proofs.Standing.{first_later, stands}
 use Rattle.session_commands.specs.WholeRuns.{says, takes}
 use Rattle.conversation.specs.Answered.{HasAnswered}
 use Rattle.conversation.specs.Kept.{HoldsTexts, StandsOnce}
 use Rattle.conversation.specs.Joints.{Joint, known_in}
+use Rattle.conversation.specs.Opened.{HoldsOpened, HoldsSynced}
 use Rattle.conversation.proofs.Answering.{answered_in, opened_in, said_in}
 use Rattle.conversation.proofs.Held.{later_known}
 use Rattle.conversation.proofs.Lasting.{keeps}
 use Rattle.dr_model.specs.Theorems.Spoken.{IsSpoken}
+use Rattle.conversation.proofs.Onward.ReadLines.{line_opened}
 use Rattle.session_model.specs.Contents.{Content}
 use Rattle.session_model.specs.declared.answer.Answer.TheVariants.{Opened, Said}
 
@@ -88,23 +91,24 @@ module _ {X Y W : Type 0} (state : X → DiskState) (others : Y → DiskState)
             (opened_in k side is.world packet is.act p is.asked is.answered),
       )
 
-  pub holds_texts : HoldsTexts state others draws k side xs ys joints
-  holds_texts said took at content packet source left p now before earlier is says_it takes_it bytes
-      image =
+  -- what was opened by a moment, however it was taken
+  pub holds_opened : HoldsOpened state others draws k side xs ys joints
+  holds_opened said by at content source left p now before early is says_it has_it bytes image =
       let spoke = said_there said content source left p says_it in
-      let opened = opened_there took packet p takes_it in
+      let sound = lawful_at k w (joints by).world lawful
+      (first_later client_cell state xs k side w (λ n. known_in k side (joints n)) linked by at now
+      early is) in
       let still = stands client_cell state xs k side w (λ n. known_in k side (joints n)) linked at now is in
       let once : (v : World) → IsAmongKnown (known_in k side (joints at)) v
       → StandsFor k v side bytes → StandsOnce k side (joints at) p content bytes = λ v which stood.
       let one = keeps k laws side (joints (said + 1)).world v spoke.0
       (later_known state k laws side xs w lawful joints linked (said + 1) at now v
       (omega (arith, before)) is which) in
-      let two = keeps k laws side (joints (took + 1)).world v opened.0
-      (later_known state k laws side xs w lawful joints linked (took + 1) at now v
-      (omega (arith, earlier)) is which) in
+      let two = keeps k laws side (joints by).world v sound
+      (later_known state k laws side xs w lawful joints linked by at now v early is which) in
       let entry_is : entry_at v.conversation p ≡ entry_with p content.kind content.bytes =
       (one.said p spoke.1.said).1 ∙ spoke.1.entry_is in
-      let has = two.opened p opened.1 in
+      let has = two.opened p has_it in
       record {
         world = v;
         known = which;
@@ -117,3 +121,22 @@ module _ {X Y W : Type 0} (state : X → DiskState) (others : Y → DiskState)
       } in
       ⊎_elim (λ stood. once (joints at).world (inl refl) stood)
       (λ found. once found.1 (inr (found.0, found.2, found.3)) found.4) (still.images bytes image)
+
+  pub holds_texts : HoldsTexts state others draws k side xs ys joints
+  holds_texts said took at content packet source left p now before earlier is says_it takes_it bytes
+      image =
+      holds_opened said (took + 1) at content source left p now before (omega (arith, earlier)) is
+      says_it (opened_there took packet p takes_it).1 bytes image
+
+  -- what a line of a sync says was opened
+  pub holds_synced : HoldsSynced state others draws k side xs ys joints
+  holds_synced said took at content source left p now before ending text early earlier is says_it
+      synced reads bytes image =
+      let spoke = said_there said content source left p says_it in
+      let sound = lawful_at k w (joints (took + 1)).world lawful
+      (first_later client_cell state xs k side w (λ n. known_in k side (joints n)) linked (took + 1) at
+      now (omega (arith, earlier)) is) in
+      holds_opened said (took + 1) at content source left p now early (omega (arith, earlier)) is
+      says_it
+      (line_opened k side synced.read (joints (took + 1)).world text sound synced.tells
+      (joints (said + 1)).world.conversation p spoke.0.conversation spoke.1.said reads) bytes image

@@ -3,3 +3,7 @@ pub mod Answered
 pub mod Kept
 pub mod Talk
 pub mod HandedOut
+pub mod Shown
+pub mod Opened
+pub mod Replies
+pub mod Fitting

@@ -21,7 +21,9 @@ ghost use Rattle.conversation.specs.HandedOut.{IsPacketOf, WasHandedOut};
 ghost use Rattle.conversation.specs.Joints.{IsConversation, Joint, known_in};
 ghost use Rattle.conversation.specs.Kept.{HoldsTexts, StandsLater};
 
+pub use crate::going_on::{goes_on_beginning, goes_on_checking, goes_on_showing, goes_on_syncing};
 pub use crate::meeting::{any_run_counts, any_run_hands_out, begins, goes_on, whole_talk};
+pub use crate::opening::{answers_fit, opened_is_kept, real_replies, synced_is_kept};
 use client::laws::client_grounds;
 use dr_disk::Disk;
 use dr_model::headline;

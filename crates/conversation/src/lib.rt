@@ -3,5 +3,7 @@
 //! what one side's commands promise is in `session_commands`, and these are laws over both.
 #![tactic(auto)]
 
+mod going_on;
 pub mod laws;
 mod meeting;
+mod opening;

@@ -1,0 +1,11 @@
+pub mod Running
+pub mod Showing
+pub mod Staying
+pub mod Plain
+pub mod Words
+pub mod Lines
+pub mod Telling
+pub mod Printing
+pub mod Syncing
+pub mod RealReplies
+pub mod ReadLines
