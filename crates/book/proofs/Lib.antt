@@ -16,11 +16,5 @@ mod Opened
 pub mod AsRead
 mod Said
 mod Runs
-pub mod Fanned
-pub mod Asked
-mod FanStaged
-mod FanSteps
-pub mod FanPut
-pub mod FanMachine
-pub mod FanListed
+pub mod Fanning
 pub mod Worlds

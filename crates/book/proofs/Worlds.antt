@@ -3,4 +3,5 @@ pub mod SaidIn
 pub mod Led
 pub mod Reached
 pub mod Stood
+pub mod Moved
 pub mod FannedOut

@@ -8,6 +8,7 @@ use Rattle.client.specs.declared.begin.Begin.{Begin}
 use Rattle.dr_base.specs.declared.key.Key32.{Key32}
 use Rattle.dr_base.specs.declared.position.Side.{Side}
 use Rattle.dr_model.specs.Conversations.Formats.{formats_of}
+use Rattle.dr_model.specs.Machines.Acts.{Act}
 use Rattle.dr_model.specs.Machines.WorldActs.{act_in}
 use Rattle.dr_model.specs.Machines.WorldSides.{kept_in}
 use Rattle.dr_model.specs.Machines.Worlds.{World, opening_world}
@@ -44,6 +45,14 @@ with_begun name begin peers worlds = record {
       then opening_world begin.key.bytes (formats_of begin.side begin.format peers)
       else worlds.world other;
   side = λ other. if bytes_eq name other then begin.side else worlds.side other;
+}
+
+-- one of them is led on by an act of this side
+abbrev pub with_acted : Mechanism → List ℕ → Side → Act → NamedWorlds → NamedWorlds
+with_acted k name side act worlds = record {
+  world = λ other. if bytes_eq name other then (act_in k (worlds.world name) side act).next
+      else worlds.world other;
+  side = worlds.side;
 }
 
 -- ---- a fan

@@ -30,10 +30,9 @@ ghost use Rattle.book.specs.Machines.{AreSteps, HaveInCommon, RowAnswer, RowCall
 ghost use Rattle.book.specs.RowCells.{row_cell};
 ghost use Rattle.book.specs.Witness.{anna, bobs_book, bobs_events, carls_book, carls_events, said_to_anna};
 
-pub use crate::peers::{fans_reach_peers, sessions_have_worlds};
-
 use crate::book::Book;
 use crate::fans::FanOut;
+pub use crate::peers::{fans_reach_peers, sessions_have_worlds};
 use dr_disk::Disk;
 use dr_model::erasure;
 use dr_ports::Draws;

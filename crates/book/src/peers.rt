@@ -1,16 +1,19 @@
 //! A book's sessions and their peers: each session is a side of a conversation of its own. The
 //! functions have no code: a caller that needs a fact calls them.
 
-ghost use Rattle.std.specs.Prelude.{◌≡◌, ℕ, List, None, Result, false, replicate};
+ghost use Rattle.std.specs.Prelude.{◌≡◌, ℕ, List, None, Result, Some, false, replicate};
 ghost use Rattle.bodies.specs.declared.format.Format.{Format};
-ghost use Rattle.book_model.specs.Rows.{Rows, begun, is_full, under};
+ghost use Rattle.book_model.specs.Rows.{Rows, begun, is_full, keeping, under};
 ghost use Rattle.client.specs.Beginning.{HasPair, begin_of, begun_client};
 ghost use Rattle.client.specs.declared.begin.Begin.{Begin};
 ghost use Rattle.dr_base.specs.Position.{peer_of};
+ghost use Rattle.dr_model.specs.Machines.Acts.{Act, act_on};
+ghost use Rattle.dr_model.specs.Machines.Steps.{settled};
 ghost use Rattle.dr_model.specs.Machines.WorldSides.{kept_in};
+ghost use Rattle.dr_model.specs.Theorems.Acting.{IsFairAct};
 ghost use Rattle.session_model.specs.Clients.{Client};
 ghost use Rattle.book.specs.Books.{MayBookAct};
-ghost use Rattle.book.specs.FanWorlds.{FansToPeers, NamedWorlds, StandIn, with_begun};
+ghost use Rattle.book.specs.FanWorlds.{FansToPeers, NamedWorlds, StandIn, with_acted, with_begun};
 ghost use Rattle.book.specs.Fanning.{FansIn};
 ghost use Rattle.book.specs.Fans.{AreListed};
 ghost use Rattle.book.specs.declared.refusals.FanRefusal.{FanRefusal};
@@ -24,7 +27,8 @@ use kem_laws::{Kem, laws};
 
 /// Each session of a book stands in a lawful world of its own: with none there is nothing to show,
 /// and one that is begun stands where the conversation of its key begins. There its peer begins
-/// with the same key, as the other side, in whichever format.
+/// with the same key, as the other side, in whichever format. An act of a session leads its world
+/// on, and so does one of its peer, which leaves what the session keeps; all other worlds stay.
 pub fn sessions_have_worlds<K: Kem>()
     ensures none { (rows : ℕ) (worlds : NamedWorlds)
         → StandIn K.mechanism (replicate rows None) worlds }
@@ -37,7 +41,21 @@ pub fn sessions_have_worlds<K: Kem>()
         → begun_client K.mechanism (begin_of (peer_of begin.side) peers begin.key)
         ≡ kept_in K.mechanism ((with_begun name begin peers worlds).world name)
         (peer_of begin.side) }
-{}
+    ensures acts { (name : List ℕ) (act : Act) (kept : Client) (rows : Rows Client)
+        (worlds : NamedWorlds) → StandIn K.mechanism rows worlds → under name rows ≡ Some kept
+        → IsFairAct K.mechanism (worlds.world name) (worlds.side name) act
+        → StandIn K.mechanism
+        (keeping name (settled kept (act_on K.mechanism kept act)).next rows)
+        (with_acted K.mechanism name (worlds.side name) act worlds) }
+    ensures moves { (name : List ℕ) (act : Act) (kept : Client) (rows : Rows Client)
+        (worlds : NamedWorlds) → StandIn K.mechanism rows worlds → under name rows ≡ Some kept
+        → IsFairAct K.mechanism (worlds.world name) (peer_of (worlds.side name)) act
+        → StandIn K.mechanism rows
+        (with_acted K.mechanism name (peer_of (worlds.side name)) act worlds) }
+{
+    laws::<K>();
+    acts_follow();
+}
 
 /// Where each session of a book stands in a world of its own, an Ok fan leads the world of each
 /// that it names on by that session's say of the one text. Its packet comes last in the row's

@@ -10,7 +10,7 @@ use Rattle.endings.specs.declared.ending.Ending.{Ending}
 use Rattle.kem_laws.specs.Mechanism.{Mechanism}
 use Rattle.session_model.specs.Clients.{Client}
 use Rattle.book_model.specs.Rows.{Rows}
-use Rattle.book.proofs.Asked.{all_say, longer, named_there, still_listed}
+use Rattle.book.proofs.Fanning.Asked.{all_say, longer, named_there, still_listed}
 use Rattle.book.proofs.Only.{only}
 use Rattle.book.proofs.Worlds.Drawn.{asked_whole}
 use Rattle.book.proofs.Worlds.Led.{named_after}
@@ -53,8 +53,7 @@ module _ {W : Type 0} (draws : W → DrawsState) (k : Mechanism) (follow : ActsF
       let fan = fan_of sessions list text seeds in
       let all = all_say draws k text sessions list source left seeds asks fair.fair fair.listed in
       let whole = asked_whole draws k text sessions list source (length list) left seeds asks in
-      let onlys = only sessions rests.book.store (rests.ready.holds ∙ ap stored rests.rows) rests.ready.rests.marked in
-      (
+      let onlys = only sessions rests.book.store (rests.ready.holds ∙ ap stored rests.rows) rests.ready.rests.marked in (
         named_after k fan worlds (length list),
         reaches_all k follow opens fan all whole onlys worlds stands,
       )

@@ -1,9 +1,9 @@
 -- What a hub's fan leaves that was cut off.
 use Rattle.std.proofs.Common.{Bool, Err, List, Option, Some, ap, arith, false, if◌then◌else◌, length, refl, subst, true, ℕ, ◌∙◌, ◌≡◌}
 use Rattle.std.specs.Prelude.{nat_le, ◌||◌}
-use Rattle.book.proofs.Asked.{all_say}
+use Rattle.book.proofs.Fanning.Asked.{all_say}
 use Rattle.book.proofs.Worlds.Drawn.{asked_whole}
-use Rattle.book.proofs.Fanned.{held_is, rows_long as fanned_long, store_rows}
+use Rattle.book.proofs.Fanning.Fanned.{held_is, rows_long as fanned_long, store_rows}
 use Rattle.book.specs.Books.{BookNow, IsBookReady}
 use Rattle.book.specs.Fanning.{FansOut}
 use Rattle.book.specs.Fans.{AllSay, AreAsked, AreListed, Fan, IsFanList, fan_of, fanned_rows, fanned_store, fanned_writes}

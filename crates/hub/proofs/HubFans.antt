@@ -1,7 +1,7 @@
 -- A hub's fan: all of its sessions say the text.
 use Rattle.std.proofs.Common.{Some, ap, arith, length, subst, suc, sym, ℕ, ◌<◌, ◌∙◌, ◌≡◌, ◌≤◌}
 use Rattle.std.specs.Prelude.{is_some}
-use Rattle.book.proofs.Asked.{all_say}
+use Rattle.book.proofs.Fanning.Asked.{all_say}
 use Rattle.book.proofs.Worlds.Drawn.{IsWhole, asked_whole}
 use Rattle.book.specs.Fans.{AllSay, AreAsked, AreListed, Fan, fan_row, fan_seed}
 use Rattle.book.specs.RowKeepings.{row_at}

@@ -4,7 +4,7 @@ use Rattle.std.proofs.lemmas.Bool.{cases_eq, cases_lt}
 use Rattle.std.specs.Prelude.{if◌then◌else◌}
 use Rattle.std.specs.Str.{bytes_eq}
 use Rattle.bodies.specs.declared.format.Format.TheVariants.{Plain}
-use Rattle.book.proofs.FanMachine.{AreOnly}
+use Rattle.book.proofs.Fanning.Machine.{AreOnly}
 use Rattle.book.proofs.Only.{differ}
 use Rattle.book.proofs.Stored.{present_inside}
 use Rattle.book.proofs.Worlds.Stood.{stands_begun, stands_none}

@@ -4,7 +4,7 @@ use Rattle.std.proofs.Math.ListN.{set}
 use Rattle.std.proofs.lemmas.Bool.{cases_eq}
 use Rattle.std.proofs.lemmas.List.{get_or-set_other, get_or-set_same}
 use Rattle.std.specs.Prelude.{IsOk, is_some}
-use Rattle.book.proofs.Fanned.{here, inside_rows, rows_long}
+use Rattle.book.proofs.Fanning.Fanned.{here, inside_rows, rows_long}
 use Rattle.book.proofs.Worlds.Drawn.{IsWhole}
 use Rattle.book.specs.Fans.{AllSay, Fan, fan_place, fan_row, fan_seed, fanned_rows, said_next, said_or, said_row}
 use Rattle.book.specs.RowKeepings.{kept_of, with_kept}

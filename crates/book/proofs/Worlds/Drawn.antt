@@ -12,7 +12,7 @@ use Rattle.ratchet.specs.Seen.{seed_bytes}
 use Rattle.session_model.specs.Clients.{Client}
 use Rattle.book.specs.Fans.{AreAsked, key_bytes, none_asked, one_more}
 use Rattle.book.specs.Stepping.{WasDrawn, was_none, was_seed}
-use Rattle.book.proofs.Asked.{asked_long}
+use Rattle.book.proofs.Fanning.Asked.{asked_long}
 
 -- a seed is 32 bytes
 abbrev pub IsWhole : Option Key32 → Type 0

@@ -13,7 +13,7 @@ use Rattle.book.specs.Fanning.{AsksAndFans, FansIn}
 use Rattle.book.specs.Fans.{AreListed, IsFanList, fan_of}
 use Rattle.book.specs.declared.refusals.FanRefusal.{FanRefusal}
 use Rattle.book.specs.declared.refusals.FanRefusal.TheVariants.{Closed, Nobody, Peer, StoreFault as Faulted}
-use Rattle.book.proofs.Asked.{all_say}
+use Rattle.book.proofs.Fanning.Asked.{all_say}
 use Rattle.book.proofs.Only.{only}
 use Rattle.book.proofs.Worlds.Drawn.{asked_whole}
 use Rattle.book.proofs.Worlds.Led.{named_after}
@@ -32,16 +32,15 @@ module _ {W : Type 0} (draws : W → DrawsState) (k : Mechanism) (follow : ActsF
       let all = all_say draws k text old.rows list source left seeds asked fair listed in
       let ready = may did.0 in
       let onlys = only old.rows old.store ready.holds ready.rests.marked in
-      let whole = asked_whole draws k text old.rows list source (length list) left seeds asked in
-      (
+      let whole = asked_whole draws k text old.rows list source (length list) left seeds asked in (
         seeds,
         asked,
         (
           named_after k fan worlds (length list),
           subst (λ (rows : Rows Client). ReachesAll k fan rows worlds
-            (named_after k fan worlds (length list)))
-            (sym did.2.2.changes.rows)
-            (reaches_all k follow opens fan all whole onlys worlds stands),
+              (named_after k fan worlds (length list)))
+              (sym did.2.2.changes.rows)
+              (reaches_all k follow opens fan all whole onlys worlds stands),
         ),
       )
 

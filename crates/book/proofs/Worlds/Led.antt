@@ -14,7 +14,7 @@ use Rattle.book.specs.FanWorlds.{NamedWorlds}
 use Rattle.book.specs.Fans.{AllSay, Fan, Says, fan_place, fan_row, fan_seed, fanned_rows, said_next}
 use Rattle.book.specs.Naming.{is_named}
 use Rattle.book.specs.RowKeepings.{kept_of, known_name, name_of}
-use Rattle.book.proofs.FanMachine.{AreOnly, first_only, kept_now, keeps, only_place, row}
+use Rattle.book.proofs.Fanning.Machine.{AreOnly, first_only, kept_now, keeps, only_place, row}
 use Rattle.book.proofs.Places.{under_at}
 
 module _ (k : Mechanism) (fan : Fan) (all : AllSay k fan) (onlys : AreOnly fan.rows) where
@@ -79,8 +79,7 @@ module _ (k : Mechanism) (fan : Fan) (all : AllSay k fan) (onlys : AreOnly fan.r
       before : (n < m → StillThere m n) → n ≢ m → StillThere (suc m) n
       before behind other =
           let lower : n < m = omega (arith, less, other) in
-          let rest = behind lower in
-          (
+          let rest = behind lower in (
             rest.0,
             ap (λ (l : Rows Client). under (fan_name fan n) l) (sym (keeps k fan all onlys m lt))
                 ∙ keeping_other (there m lt).name (fan_name fan n)

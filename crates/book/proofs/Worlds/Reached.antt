@@ -17,7 +17,7 @@ use Rattle.session_model.specs.declared.answer.Answer.TheVariants.{Said}
 use Rattle.book.specs.FanStepping.{fan_act, fan_name}
 use Rattle.book.specs.FanWorlds.{NamedWorlds, ReachesAll, ReachesPeer, StandIn}
 use Rattle.book.specs.Fans.{AllSay, Fan, fan_seed, fanned_rows, key_bytes, said_next}
-use Rattle.book.proofs.FanMachine.{AreOnly, kept_now, keeps}
+use Rattle.book.proofs.Fanning.Machine.{AreOnly, kept_now, keeps}
 use Rattle.book.proofs.Only.{differ}
 use Rattle.book.proofs.Worlds.Drawn.{IsWhole}
 use Rattle.book.proofs.Worlds.Led.{after, kept_first, led, name_is, named_after, says_there, still, there, untouched}

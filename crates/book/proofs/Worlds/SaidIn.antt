@@ -20,7 +20,7 @@ use Rattle.session_model.specs.Contents.{text_content}
 use Rattle.session_model.specs.declared.answer.Answer.TheVariants.{Said}
 use Rattle.session_model.specs.declared.answer.Refusal.{Refusal}
 use Rattle.book.specs.Fans.{Says, key_bytes, said_next, said_or}
-use Rattle.book.proofs.FanMachine.{seed_given}
+use Rattle.book.proofs.Fanning.Machine.{seed_given}
 use Rattle.book.proofs.Worlds.Drawn.{IsWhole}
 
 some_bytes : (seed : Option Key32) → is_some (key_bytes seed) ≡ is_some seed

@@ -5,7 +5,7 @@ use Rattle.std.proofs.lemmas.Bool.{cases_eq}
 use Rattle.std.proofs.lemmas.List.{get_or-set_other, get_or-set_same, length-append, length-map, length-set}
 use Rattle.std.specs.Prelude.{if◌then◌else◌, ◌*◌}
 use Rattle.std.specs.Str.{bytes_eq}
-use Rattle.book.proofs.Fanned.{store_rows}
+use Rattle.book.proofs.Fanning.Fanned.{store_rows}
 use Rattle.book.proofs.Only.{numbers_long}
 use Rattle.book.specs.Fans.{Fan, fan_place, fan_row, fan_seed, fanned_store, said_next}
 use Rattle.book.specs.RowKeepings.{kept_of}

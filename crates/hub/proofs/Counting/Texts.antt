@@ -102,7 +102,7 @@ one_page c is =
 
 -- ---- its page
 
-count_one : (n : ℕ) → 1 ≤ n → n ≤ 4096 → div_ceil n 4096 ≡ 1
+count_one : (n : ℕ) → 1 ≤ n → n ≤ PAGE → div_ceil n PAGE ≡ 1
 count_one n some few = omega arith
 
 pub page_is : (text : List ℕ) → IsOnePage text → pages_in text ≡ filled_page text ∷ []

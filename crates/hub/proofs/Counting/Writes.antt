@@ -2,7 +2,7 @@
 use Rattle.std.proofs.Common.{Err, List, None, Ok, Option, Result, Some, [], ap, ap₂, arith, false, get_or, length, refl, subst, suc, sym, true, zero, ℕ, ◌+◌, ◌<◌, ◌∙◌, ◌∷◌, ◌≡◌, ◌≤◌}
 use Rattle.std.specs.Prelude.{IsOk, if◌then◌else◌}
 use Rattle.std.specs.Str.{bytes_eq}
-use Rattle.book.proofs.Fanned.{held_is, later, row_stays}
+use Rattle.book.proofs.Fanning.Fanned.{held_is, later, row_stays}
 use Rattle.book.proofs.Stored.{stored_at}
 use Rattle.book.specs.Fans.{Fan, Says, fan_place, fan_row, fan_seed, fanned_rows, fanned_store, fanned_writes, said_next, said_or, said_writes}
 use Rattle.book.specs.RowKeepings.{kept_of}

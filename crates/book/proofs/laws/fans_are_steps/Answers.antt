@@ -1,4 +1,4 @@
-use Rattle.book.proofs.FanMachine.{fan_steps}
+use Rattle.book.proofs.Fanning.Machine.{fan_steps}
 use Rattle.book.proofs.laws.fans_are_steps.Goals as goal
 
 pub returns : goal.returns

@@ -3,7 +3,7 @@ use Rattle.std.proofs.lemmas.List.{length-map}
 use Rattle.std.specs.Borrow.{Bor}
 use Rattle.dr_ports.specs.Writing.{Writes}
 use Rattle.endings.specs.declared.ending.Ending.TheVariants.{Done}
-use Rattle.book.proofs.FanListed.{fans_listed}
+use Rattle.book.proofs.Fanning.Listed.{fans_listed}
 use Rattle.book_commands.specs.FanLines.{said_lines}
 use Rattle.book_commands.specs.Fanning.{RunsFan, wasnt_opened}
 use Rattle.book_commands.proofs.FanAdded.{texts}

@@ -2,7 +2,7 @@ use Rattle.std.proofs.Common.{Err, Ok, ap, refl, subst, sym, ◌∙◌}
 use Rattle.book.specs.Books.{BookNow}
 use Rattle.book.specs.Fanning.{AsksInTurn}
 use Rattle.book.specs.Fans.{AreListed}
-use Rattle.book.proofs.FanPut.{all_of, refused, said_by_all, still_open}
+use Rattle.book.proofs.Fanning.Put.{all_of, refused, said_by_all, still_open}
 use Rattle.book.proofs.book.Book.fan.Goals as goal
 
 pub ask_all-requires-clause-listed : goal.ask_all-requires-clause-listed

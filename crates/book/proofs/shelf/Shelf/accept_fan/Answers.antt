@@ -1,5 +1,5 @@
 use Rattle.std.proofs.Common.{arith}
-use Rattle.book.proofs.FanSteps.{next_rows, still_says, still_there}
+use Rattle.book.proofs.Fanning.Steps.{next_rows, still_says, still_there}
 use Rattle.book.proofs.shelf.Shelf.accept_fan.Goals as goal
 
 pub accept_at-requires-clause-there : goal.accept_at-requires-clause-there

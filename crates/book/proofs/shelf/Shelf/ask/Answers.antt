@@ -3,7 +3,7 @@ use Rattle.session_model.specs.Clients.{Client, say_check}
 use Rattle.session_model.specs.Contents.{text_content}
 use Rattle.book.specs.RowKeepings.{row_keeping}
 use Rattle.book.specs.Stepping.{was_none, was_seed}
-use Rattle.book.proofs.Asked.{answers_asked}
+use Rattle.book.proofs.Fanning.Asked.{answers_asked}
 use Rattle.book.proofs.shelf.Shelf.ask.Goals as goal
 
 pub returns-in-Ok-clause-asks : goal.returns-in-Ok-clause-asks

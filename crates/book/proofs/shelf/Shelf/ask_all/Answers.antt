@@ -4,8 +4,8 @@ use Rattle.dr_base.specs.declared.key.Key32.{Key32}
 use Rattle.book.specs.Fans.{AreAsked, none_asked}
 use Rattle.book.specs.Books.{BookNow}
 use Rattle.book.specs.RowKeepings.{RowNow, row_at, row_keeping}
-use Rattle.book.proofs.Asked.{asked_long}
-use Rattle.book.proofs.FanSteps.{asked_more, asks_next}
+use Rattle.book.proofs.Fanning.Asked.{asked_long}
+use Rattle.book.proofs.Fanning.Steps.{asked_more, asks_next}
 use Rattle.book.proofs.shelf.Shelf.ask_all.Goals as goal
 
 pub list-init : goal.list-init

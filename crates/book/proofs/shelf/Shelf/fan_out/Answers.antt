@@ -1,4 +1,4 @@
-use Rattle.book.proofs.FanPut.{fanned, still_all, unfanned}
+use Rattle.book.proofs.Fanning.Put.{fanned, still_all, unfanned}
 use Rattle.book.proofs.shelf.Shelf.fan_out.Goals as goal
 
 pub accept_fan-requires : goal.accept_fan-requires

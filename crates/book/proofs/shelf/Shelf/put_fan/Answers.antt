@@ -1,4 +1,4 @@
-use Rattle.book.proofs.FanPut.{few, may, put_failed, put_then}
+use Rattle.book.proofs.Fanning.Put.{few, may, put_failed, put_then}
 use Rattle.book.proofs.shelf.Shelf.put_fan.Goals as goal
 
 pub returns-in-Err : goal.returns-in-Err

@@ -1,8 +1,8 @@
 use Rattle.std.proofs.Common.{add-one, ap, arith, length, refl, subst, sym, ◌∙◌, ◌≡◌}
 use Rattle.book.specs.Fans.{fan_of, fanned_store}
 use Rattle.book.specs.Putting.{StagesFirst, with_store}
-use Rattle.book.proofs.FanStaged.{none_first}
-use Rattle.book.proofs.FanSteps.{fails_staging, inside, may, more_staged, name, next_self, once, only_store, same_rows, says, there}
+use Rattle.book.proofs.Fanning.Staged.{none_first}
+use Rattle.book.proofs.Fanning.Steps.{fails_staging, inside, may, more_staged, name, next_self, once, only_store, same_rows, says, there}
 use Rattle.book.proofs.Imaged.{has_rows}
 use Rattle.book.proofs.shelf.Shelf.stage_fan.Goals as goal
 

@@ -23,8 +23,8 @@ use Rattle.book.specs.Books.{BookNow, IsBookReady}
 use Rattle.book.specs.Fans.{AllSay, AreAsked, Asks, Fan, Says, fan_of, fanned_rows, fanned_store, one_more, said_row, said_writes, staged_said}
 use Rattle.book.specs.Putting.{StagesFirst, StagingFails, with_rows, with_store}
 use Rattle.book.specs.RowKeepings.{RowNow, kept_of, known_name, name_of, row_at, row_keeping}
-use Rattle.book.proofs.FanStaged.{staged_next, staging_failed}
-use Rattle.book.proofs.Fanned.{inside_store, later, name_new, row_stays, store_rows, unstaged_yet}
+use Rattle.book.proofs.Fanning.Staged.{staged_next, staging_failed}
+use Rattle.book.proofs.Fanning.Fanned.{inside_store, later, name_new, row_stays, store_rows, unstaged_yet}
 
 -- ---- asked
 

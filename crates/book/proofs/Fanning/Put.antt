@@ -20,12 +20,12 @@ use Rattle.book.specs.Fans.{AllSay, Fan, fan_of, fanned_rows, fanned_store, fann
 use Rattle.book.specs.Putting.{PutsFan, StagesFan, closed_by, with_rows, with_store}
 use Rattle.book.specs.RowKeepings.{RowNow}
 use Rattle.book.specs.Rows.{stored}
-use Rattle.book.proofs.Fanned.{held_is, store_rows}
+use Rattle.book.proofs.Fanning.Fanned.{held_is, store_rows}
 use Rattle.book.proofs.Staged.{stage_failed, then_settled}
 use Rattle.dr_ports.specs.States.{DrawsState}
 use Rattle.book.specs.declared.refusals.FanRefusal.{FanRefusal}
 use Rattle.book.specs.declared.refusals.FanRefusal.TheVariants.{Closed, Nobody, Peer, StoreFault as Faulted}
-use Rattle.book.proofs.Asked.{all_say}
+use Rattle.book.proofs.Fanning.Asked.{all_say}
 
 module _ (k : Mechanism) (was : RowNow) (list text : List ℕ) (seeds : List (Option Key32))
     (all : AllSay k (fan_of was.book.rows list text seeds)) (start : DiskState) (ready : IsBookReady was.book start) where

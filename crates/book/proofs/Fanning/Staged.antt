@@ -18,7 +18,7 @@ use Rattle.book_store.proofs.Composed.{stay, stay_still}
 use Rattle.kem_laws.specs.Mechanism.{Mechanism}
 use Rattle.book.specs.Fans.{AllSay, Fan, fan_place, fan_row, fan_seed, fanned_store, fanned_writes, said_writes}
 use Rattle.book.specs.Putting.{StagesFirst, StagingFails}
-use Rattle.book.proofs.Fanned.{store_rows, writes_more}
+use Rattle.book.proofs.Fanning.Fanned.{store_rows, writes_more}
 
 module _ (k : Mechanism) (fan : Fan) (first : BookStore) (start : DiskState) where
   pub none_first : IsStagedOver first first.held start → Always (HasRows first.rows first.held) start

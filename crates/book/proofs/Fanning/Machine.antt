@@ -29,10 +29,10 @@ use Rattle.book.specs.FanStepping.{FansAsStep, IsFanStep, fan_calls}
 use Rattle.book.specs.Machines.{RowAnswer, RowCall, acted, acts, done_as, row_does, sessions_of}
 use Rattle.book.specs.Naming.{IsPlaceOf, is_named}
 use Rattle.book.specs.RowKeepings.{kept_of, known_name, name_of, with_kept}
-use Rattle.book.proofs.Fanned.{here, later, row_stays, rows_long, inside_rows}
+use Rattle.book.proofs.Fanning.Fanned.{here, later, row_stays, rows_long, inside_rows}
 use Rattle.book.specs.declared.refusals.FanRefusal.{FanRefusal}
 use Rattle.book.specs.declared.refusals.FanRefusal.TheVariants.{Closed, Nobody, Peer, StoreFault as Faulted}
-use Rattle.book.proofs.Asked.{all_say}
+use Rattle.book.proofs.Fanning.Asked.{all_say}
 use Rattle.book.proofs.Only.{only}
 use Rattle.book.specs.Rows.{stored}
 use Rattle.book.proofs.Places.{IsOnly, keeping_is, under_at}
